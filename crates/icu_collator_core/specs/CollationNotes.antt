@@ -6,8 +6,8 @@ use Rattle.icu_collator_core.specs.ReadSources.{IsAloneAnywhere, canonical_by}
 use Rattle.icu_collator_core.specs.TableMeaning.{weights_of}
 use Rattle.icu_collator_core.specs.UnsafeCharacters.{IsUnsafe}
 use Rattle.icu_collator_core.specs.Weights.{Weights}
-use Rattle.icu_collator_core.specs.declared.collation_notes.CollationNote.{CollationNote}
-use Rattle.icu_collator_core.specs.declared.collation_notes.CollationNote.TheVariants.{Other, Beginning, Alone, Plain}
+use Rattle.icu_collator_core.specs.declared.notes.collation_notes.CollationNote.{CollationNote}
+use Rattle.icu_collator_core.specs.declared.notes.collation_notes.CollationNote.TheVariants.{Other, Beginning, Alone, Plain}
 
 -- a character at which reading may begin, and that is its own full list: what is read there begins with it
 pub record IsOwnBeginning (canonical : Canonical) (weights : Weights) (c : ℕ) : Type 0 where

@@ -10,8 +10,8 @@ use Rattle.icu_collator_core.specs.ElementLists.{unpacked}
 use Rattle.icu_collator_core.specs.Elements.{elements_of_list, elements_within, placed_behind}
 use Rattle.icu_collator_core.specs.PlainWords.{IsReadUncounted, IsUnprefixed}
 use Rattle.icu_collator_core.specs.ReadSources.{canonical_by, weights_by}
-use Rattle.icu_collator_core.specs.declared.flat.notes.FlatNote.{FlatNote}
-use Rattle.icu_collator_core.specs.declared.flat.notes.FlatNote.TheVariants.{Other, Boundary, One, Digit, Two}
+use Rattle.icu_collator_core.specs.declared.notes.flat_note.FlatNote.{FlatNote}
+use Rattle.icu_collator_core.specs.declared.notes.flat_note.FlatNote.TheVariants.{Other, Boundary, One, Digit, Two}
 
 -- A character of a decomposed list is read alone, with one element, these 64 bits, whatever stands before and behind it; digits
 -- count where a lead byte of numbers is given.

@@ -2,8 +2,8 @@
 use Rattle.std.specs.Prelude.{ℕ, ◌+◌, ◌*◌, List, [], get_or}
 use Rattle.icu_collator_core.specs.Acceptance.{CollationSource}
 use Rattle.icu_collator_core.specs.FlatNotes.{IsFlatNote}
-use Rattle.icu_collator_core.specs.declared.flat.notes.FlatNote.{FlatNote}
-use Rattle.icu_collator_core.specs.declared.flat.notes.FlatNote.TheVariants.{Other}
+use Rattle.icu_collator_core.specs.declared.notes.flat_note.FlatNote.{FlatNote}
+use Rattle.icu_collator_core.specs.declared.notes.flat_note.FlatNote.TheVariants.{Other}
 
 -- notes of a page's characters, in their order
 abbrev pub IsNotePage : CollationSource → ℕ → List FlatNote → Type 0

@@ -9,8 +9,8 @@ use Rattle.icu_collator_core.specs.Elements.{match_length}
 use Rattle.icu_collator_core.specs.FlatNotes.{AreReadBefore, IsBoundaryApart}
 use Rattle.icu_collator_core.specs.PlainWords.{IsUnprefixed}
 use Rattle.icu_collator_core.specs.ReadSources.{canonical_by, weights_by}
-use Rattle.icu_collator_core.specs.declared.flat.pairs.PairNote.{PairNote}
-use Rattle.icu_collator_core.specs.declared.flat.pairs.PairNotes.{PairNotes}
+use Rattle.icu_collator_core.specs.declared.notes.pairs.PairNote.{PairNote}
+use Rattle.icu_collator_core.specs.declared.notes.pairs.PairNotes.{PairNotes}
 
 -- Two characters, each its own full list, the first a boundary, have these elements together, whatever stands before them, where
 -- what follows may stand behind this class: that of the second, if it is one.

@@ -3,7 +3,7 @@ use Rattle.std.specs.Prelude.{◌≡◌, ℕ, List, ◌++◌, drop, Option}
 use Rattle.std.specs.Option.{is_some}
 use Rattle.smallvec.specs.SmallVec.{small_vec_len}
 use Rattle.icu_collator_types.specs.declared.elements.Element.{Element}
-use Rattle.icu_collator_core.specs.declared.reading.reader.Reader.{Reader}
+use Rattle.icu_collator_core.specs.declared.elements.reader.Reader.{Reader}
 use Rattle.icu_collator_core.specs.Acceptance.{CollationSource}
 use Rattle.icu_collator_core.specs.ElementLists.{unpacked}
 use Rattle.icu_collator_core.specs.ReadSources.{canonical_by, weights_by}

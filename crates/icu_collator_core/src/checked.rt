@@ -1,7 +1,7 @@
-//! Collation data: tables that were checked, with the canonical data that they are read with.
+//! Collation data: tables that were checked, with the canonical data that they are read with, and with notes of characters.
 
-ghost use Rattle.std.specs.Prelude.{◌≡◌, ◌↔◌, [], ◌∷◌, ℕ, List, IfOk, IfSome, IsTrue, MatchOption, MatchResult, true};
-ghost use Rattle.icu_normalizer_core.specs.BorrowedMeaning.{borrowed_meaning, borrowed_tables};
+ghost use Rattle.std.specs.Prelude.{◌≡◌, ◌↔◌, IfOk, IfSome, IsTrue, MatchResult, true};
+ghost use Rattle.icu_normalizer_core.specs.BorrowedMeaning.{borrowed_tables};
 ghost use Rattle.icu_normalizer_core.specs.CanonicalMeaning.{meaning};
 ghost use Rattle.icu_collator_core.specs.Acceptance.{IsAccepted, IsRefusal};
 ghost use Rattle.icu_collator_core.specs.FlatNotes.{IsFlatNote};
@@ -11,32 +11,29 @@ ghost use Rattle.icu_collator_core.specs.PlainWords.{IsUnprefixed};
 ghost use Rattle.icu_collator_core.specs.ReadSources.{IsAloneAnywhere};
 ghost use Rattle.icu_collator_core.specs.TableMeaning.{weights_of};
 ghost use Rattle.icu_collator_core.specs.TableSettings.{is_compressible_in};
-ghost use Rattle.icu_collator_core.specs.UnsafeWords.{AreUnsafeByRecords};
-ghost use Rattle.icu_collator_core.specs.UnsafeCharacters.{IsUnsafe, IsUnsafeItself};
+ghost use Rattle.icu_collator_core.specs.UnsafeCharacters.{IsUnsafe};
 
 use crate::check::TableFault;
-use crate::check::faults::judge;
-use crate::collation_notes::{CollationNote, collation_notes};
 use crate::compressible_leads::{compressible_leads, is_compressible_by};
-use crate::flat::notes::{FlatNote, flat_notes};
-use crate::flat::pages::{NotePage, note_pages};
-use crate::flat::pairs::{PairNote, PairNotes, pair_notes};
+use crate::notes::collation_notes::{CollationNote, collation_notes};
+use crate::notes::flat_note::FlatNote;
+use crate::notes::flat_notes::flat_notes;
+use crate::notes::pages::{NotePage, note_pages};
+use crate::notes::pairs::{PairNote, PairNotes, pair_notes};
 use crate::reading::checked_words::checked_word;
-use crate::reading::next::alone_at;
+use crate::reading::next::find_alone;
+use crate::sound::SoundTables;
 use crate::tables::CollationTables;
-use crate::unsafe_characters::{holds, unsafe_by_records};
 use icu_collator_types::elements::CollationElement;
-use icu_normalizer_core::canonical::{CanonicalBorrowed, CanonicalData, Reading};
+use icu_normalizer_core::canonical::{CanonicalBorrowed, CanonicalData};
 use std::alloc::{AllocError, Global};
 use std::marker::Model;
 
-/// Collation data: tables that pass every check, with their canonical data, seen as the tables of both.
+/// Collation data: tables that pass every check, with their canonical data and with notes, seen as the tables of both.
 #[derive(Debug)]
 pub struct CheckedTables<'a> {
-    canonical: CanonicalData<'a>,
-    tables: CollationTables<'a>,
-    /// the characters that are unsafe by what is recorded.
-    unsafe_characters: Vec<u32>,
+    /// The tables of both.
+    sound: SoundTables<'a>,
     /// What is noted of the low characters.
     low: Vec<CollationNote>,
     /// By what low characters are read flat.
@@ -53,9 +50,7 @@ pub struct CheckedTables<'a> {
 impl Drop for CheckedTables<'_> {
     fn drop(self) {
         let CheckedTables {
-            canonical: _,
-            tables: _,
-            unsafe_characters: _,
+            sound: _,
             low: _,
             flat: _,
             pages: _,
@@ -66,60 +61,22 @@ impl Drop for CheckedTables<'_> {
 }
 
 impl<'a> Model for CheckedTables<'a> {
-    ghost use Rattle.icu_normalizer_core.specs.CanonicalMeaning.{meaning};
-    ghost use Rattle.icu_collator_core.specs.Acceptance.{CollationSource, IsAccepted};
+    ghost use Rattle.icu_collator_core.specs.Acceptance.{CollationSource};
     ghost use Rattle.icu_collator_core.specs.FlatNotes.{AreFlatNotes};
     ghost use Rattle.icu_collator_core.specs.CollationNotes.{AreNoted};
     ghost use Rattle.icu_collator_core.specs.CompressibleLeads.{AreCompressibleLeads};
     ghost use Rattle.icu_collator_core.specs.NotePages.{AreNotePages};
     ghost use Rattle.icu_collator_core.specs.Pairs.{ArePairNotes};
-    ghost use Rattle.icu_collator_core.specs.TableMeaning.{weights_of};
-    ghost use Rattle.icu_collator_core.specs.UnsafeWords.{AreUnsafeByRecords};
 
     ghost Value = { CollationSource };
 
-    ghost view = { λ inside. record { canonical = inside.canonical; tables = inside.tables } };
+    ghost view = { λ inside. inside.sound };
 
-    ghost invariant = { λ inside. IsAccepted (meaning inside.canonical) inside.tables
-        × AreUnsafeByRecords (weights_of (meaning inside.canonical) inside.tables) inside.unsafe_characters.items
-        × AreNoted (record { canonical = inside.canonical; tables = inside.tables }) inside.low.items
-        × AreFlatNotes (record { canonical = inside.canonical; tables = inside.tables }) inside.flat.items
-        × AreNotePages (record { canonical = inside.canonical; tables = inside.tables }) inside.pages.items
-        × ArePairNotes (record { canonical = inside.canonical; tables = inside.tables }) inside.pairs
-        × AreCompressibleLeads inside.tables.special_primaries.last_primaries inside.compressible };
-}
-
-/// The characters that tables make unsafe, where they pass every check; else what they are refused for.
-fn judge_unsafe(
-    alloc: Global,
-    canonical: CanonicalBorrowed<'_>,
-    tables: &CollationTables<'_>,
-) -> Result<Vec<u32>, TableFault>
-    ensures { MatchResult result
-        (λ unsafe_characters. IsAccepted (borrowed_meaning canonical.entry) tables.now × AreUnsafeByRecords (weights_of (borrowed_meaning canonical.entry) tables.now) unsafe_characters.items)
-        (IsRefusal (borrowed_meaning canonical.entry) tables.now) }
-{
-    judge(alloc, canonical, tables)?;
-    let characters = unsafe_by_records(alloc, canonical, tables)?;
-    Ok(characters)
-}
-
-/// The first character of a full list.
-fn first_of_full(canonical: CanonicalBorrowed<'_>, c: char) -> Option<char>
-    ensures { MatchOption result ((borrowed_meaning canonical.entry).full c ≡ []) (λ first. (rest : List ℕ) × ((borrowed_meaning canonical.entry).full c ≡ first ∷ rest)) }
-{
-    let mut list = canonical.full_list(c);
-    list.next()
-}
-
-/// Whether one read tells that a character is its own full list.
-pub(crate) fn is_own_list(canonical: CanonicalBorrowed<'_>, c: char) -> bool
-    ensures { IsTrue result → (borrowed_meaning canonical.entry).full c ≡ c ∷ [] }
-{
-    match canonical.reading(c) {
-        Reading::Itself(_class) => true,
-        _ => false,
-    }
+    ghost invariant = { λ inside. AreNoted inside.sound inside.low.items
+        × AreFlatNotes inside.sound inside.flat.items
+        × AreNotePages inside.sound inside.pages.items
+        × ArePairNotes inside.sound inside.pairs
+        × AreCompressibleLeads inside.sound.tables.special_primaries.last_primaries inside.compressible };
 }
 
 impl<'a> CheckedTables<'a> {
@@ -134,59 +91,50 @@ impl<'a> CheckedTables<'a> {
             (λ checked. (checked ≡ record { canonical = canonical.entry; tables = tables.entry }) × IsAccepted (meaning canonical.entry) tables.entry)
             (IsRefusal (meaning canonical.entry) tables.entry) }
     {
-        match judge_unsafe(alloc, canonical.as_borrowed(), &tables) {
-            Ok(unsafe_characters) => {
-                let compressible = compressible_leads(&tables.special_primaries);
-                let checked = CheckedTables {
-                    canonical,
-                    tables,
-                    unsafe_characters,
-                    low: Vec::new(alloc),
-                    flat: Vec::new(alloc),
-                    pages: Vec::new(alloc),
-                    pairs: PairNotes::new(alloc),
-                    compressible,
-                };
-                Ok(checked.with_low(alloc)?.with_pairs(alloc)?)
-            }
-            Err(fault) => Err(fault),
-        }
+        let sound = SoundTables::try_new(alloc, canonical, tables)?;
+        let checked = CheckedTables::noted(alloc, sound)?;
+        Ok(checked)
     }
 
-    /// The same tables, with notes of characters.
-    fn with_low(mut self, alloc: Global) -> Result<CheckedTables<'a>, AllocError>
-        ensures { IfOk result (λ checked. checked ≡ self.entry) }
+    /// Sound tables with notes. Fails only when out of memory.
+    fn noted(alloc: Global, sound: SoundTables<'a>) -> Result<CheckedTables<'a>, AllocError>
+        ensures { IfOk result (λ checked. checked ≡ sound.entry) }
     {
-        let low = collation_notes(alloc, &self)?;
-        let flat = flat_notes(alloc, &self)?;
-        let pages = note_pages(alloc, &self)?;
-        self.low = low;
-        self.flat = flat;
-        self.pages = pages;
-        Ok(self)
+        let low = collation_notes(alloc, &sound)?;
+        let flat = flat_notes(alloc, &sound)?;
+        let pages = note_pages(alloc, &sound)?;
+        let pairs = pair_notes(alloc, &sound, flat.as_slice(), pages.as_slice())?;
+        let compressible = compressible_leads(&sound.tables().special_primaries);
+        Ok(CheckedTables {
+            sound,
+            low,
+            flat,
+            pages,
+            pairs,
+            compressible,
+        })
     }
 
-    /// The same tables, with notes of pairs of characters, which those of characters tell.
-    fn with_pairs(mut self, alloc: Global) -> Result<CheckedTables<'a>, AllocError>
-        ensures { IfOk result (λ checked. checked ≡ self.entry) }
+    /// The same tables, without notes.
+    #[inline(always)]
+    pub(crate) fn sound(&self) -> &SoundTables<'a>
+        ensures { result.now ≡ self.now }
     {
-        let pairs = pair_notes(alloc, &self, self.unsafe_characters.as_slice())?;
-        self.pairs = pairs;
-        Ok(self)
+        &self.sound
     }
 
     /// The canonical data that `try_new` was given. No memory is taken.
     pub fn canonical(&self) -> CanonicalBorrowed<'_>
         ensures { borrowed_tables result ≡ self.now.canonical }
     {
-        self.canonical.as_borrowed()
+        self.sound.canonical()
     }
 
     /// The tables that `try_new` was given. No memory is taken.
     pub fn tables(&self) -> &CollationTables<'a>
         ensures { result.now ≡ self.now.tables }
     {
-        &self.tables
+        self.sound.tables()
     }
 
     /// Checked tables pass every check with their canonical data.
@@ -195,16 +143,22 @@ impl<'a> CheckedTables<'a> {
     pub fn keep_promise(&self)
         ensures { IsAccepted (meaning self.now.canonical) self.now.tables }
     {
-        let _tables = &self.tables;
+        self.sound.keep_promise();
     }
 
     /// The element of a character that is read by itself, whatever stands before and behind it; `None` for one that isn't,
     /// and for some that are. No memory is taken.
+    #[inline]
     pub fn alone_element(&self, c: char) -> Option<CollationElement>
         ensures { IfSome result (λ bits. IsAloneAnywhere self.now c bits) }
     {
-        let element = alone_at(self, c)?;
-        Some(element)
+        match self.collation_note(c) {
+            Some(note) => {
+                let element = note.alone()?;
+                Some(element)
+            }
+            None => find_alone(&self.sound, c),
+        }
     }
 
     /// The element of a character that is read by itself, whatever stands before and behind it, that is its own full list
@@ -226,7 +180,7 @@ impl<'a> CheckedTables<'a> {
     {
         match self.collation_note(c) {
             Some(note) => note.is_beginning(),
-            None => self.find_own_beginning(c),
+            None => self.sound.find_own_beginning(c),
         }
     }
 
@@ -235,7 +189,7 @@ impl<'a> CheckedTables<'a> {
     pub fn is_unprefixed(&self, c: char) -> bool
         ensures { result ≡ true → IsUnprefixed (weights_of (meaning self.now.canonical) self.now.tables) c }
     {
-        checked_word(self, c).is_unprefixed()
+        checked_word(&self.sound, c).is_unprefixed()
     }
 
     /// Whether a lead byte is left out of a key after a primary with the same lead. It takes one read and no memory.
@@ -288,37 +242,11 @@ impl<'a> CheckedTables<'a> {
         Some(pair)
     }
 
-    /// Whether a character is its own full list, and reading may begin at it, by the tables alone.
-    pub(crate) fn find_own_beginning(&self, c: char) -> bool
-        ensures { IsTrue result → IsOwnBeginning (meaning self.now.canonical) (weights_of (meaning self.now.canonical) self.now.tables) c }
-    {
-        if !is_own_list(self.canonical(), c) {
-            return false;
-        }
-        !self.is_unsafe_itself(c)
-    }
-
     /// Whether no reading of a text may begin at a character: it is a mark, stands second or later in a recorded text or
     /// has a recorded prefix, or its full list begins with such a character. No memory is taken.
     pub fn is_unsafe(&self, c: char) -> bool
         ensures { IsTrue result ↔ IsUnsafe (meaning self.now.canonical) (weights_of (meaning self.now.canonical) self.now.tables) c }
     {
-        if self.is_unsafe_itself(c) {
-            return true;
-        }
-        match first_of_full(self.canonical(), c) {
-            Some(first) => self.is_unsafe_itself(first),
-            None => false,
-        }
-    }
-
-    /// Whether a character is a mark, or unsafe by what is recorded.
-    pub(crate) fn is_unsafe_itself(&self, c: char) -> bool
-        ensures { IsTrue result ↔ IsUnsafeItself (meaning self.now.canonical) (weights_of (meaning self.now.canonical) self.now.tables) c }
-    {
-        if !self.canonical().is_starter(c) {
-            return true;
-        }
-        holds(self.unsafe_characters.as_slice(), c)
+        self.sound.is_unsafe(c)
     }
 }

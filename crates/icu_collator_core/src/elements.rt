@@ -2,6 +2,8 @@
 //! names.
 
 mod collation_elements;
+mod reader;
+mod runs;
 mod upcoming;
 pub mod whole_texts;
 

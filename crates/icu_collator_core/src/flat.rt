@@ -5,23 +5,19 @@ ghost use Rattle.std.specs.Iterator.{IsFinite};
 ghost use Rattle.icu_normalizer_core.specs.Iter.{Spells};
 ghost use Rattle.icu_collator_core.specs.ElementLists.{unpacked};
 ghost use Rattle.icu_collator_core.specs.ElementTexts.{text_elements};
-ghost use Rattle.icu_collator_core.specs.FlatNotes.{IsFlatNote, IsPushed};
+ghost use Rattle.icu_collator_core.specs.FlatNotes.{IsPushed};
 
-mod boundaries;
-mod flat_elements;
+mod found_notes;
 mod listed;
-pub(crate) mod notes;
-pub(crate) mod pages;
-pub(crate) mod pairs;
 mod steps;
 pub(crate) mod stretched;
 mod stretches;
 mod syllables;
 
 use crate::checked::CheckedTables;
-pub use flat_elements::FlatElements;
+pub use crate::notes::flat_elements::FlatElements;
+use crate::notes::flat_note::FlatNote;
 use icu_normalizer_core::built_in::is_syllable;
-use notes::FlatNote;
 pub use steps::FlatStep;
 pub use stretched::StretchedElements;
 
@@ -67,17 +63,6 @@ impl CheckedTables<'_> {
         }
         let trail = note.push(numeric, before, elements)?;
         Some(trail)
-    }
-
-    /// By what a character is read flat.
-    #[inline(always)]
-    fn read_note(&self, c: char) -> FlatNote
-        ensures { IsFlatNote self.now c result }
-    {
-        match self.flat_note(c) {
-            Some(note) => *note,
-            None => self.find_note(c),
-        }
     }
 
     /// Reads the text that an iterator gives into an empty list, if it is flat: each of its characters has a full list (UAX 15)

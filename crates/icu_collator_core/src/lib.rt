@@ -5,13 +5,14 @@
 pub mod check;
 mod check_weights;
 pub mod checked;
-mod collation_notes;
 mod compressible_leads;
 pub mod elements;
 pub mod flat;
 pub mod laws;
+mod notes;
 pub mod provider;
 mod reading;
+mod sound;
 mod table_words;
 pub mod tables;
 mod unsafe_characters;

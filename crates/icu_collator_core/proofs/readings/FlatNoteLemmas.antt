@@ -11,7 +11,7 @@ use Rattle.icu_collator_core.specs.Defaults.{special_primary}
 use Rattle.icu_collator_core.specs.ElementLists.{unpacked}
 use Rattle.icu_collator_core.specs.Elements.{elements_of_list}
 use Rattle.icu_collator_core.specs.FlatNotes.{AreReadFlat, IsBoundaryApart, IsFlat, IsFlatNote, IsFlatUpTo, IsReadFlat, IsSteady, IsUncounted, MayBegin, MayFollow, StandInOrder, note_by}
-use Rattle.icu_collator_core.specs.declared.flat.notes.FlatNote.TheVariants.{One, Other, Two}
+use Rattle.icu_collator_core.specs.declared.notes.flat_note.FlatNote.TheVariants.{One, Other, Two}
 use Rattle.icu_collator_core.specs.PlainWords.{IsReadAlone, IsReadUncounted}
 use Rattle.icu_collator_core.specs.ReadSources.{canonical_by, weights_by}
 use Rattle.icu_collator_core.specs.TableMeaning.{weights_of}

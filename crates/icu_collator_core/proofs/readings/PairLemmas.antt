@@ -28,7 +28,7 @@ use Rattle.icu_collator_core.specs.ReadWords.{AreSaidBy}
 use Rattle.icu_collator_core.specs.TableMeaning.{TableWord}
 use Rattle.icu_collator_core.specs.TableSettings.{has_bit}
 use Rattle.icu_collator_core.specs.Weights.{Weights}
-use Rattle.icu_collator_core.specs.declared.flat.pairs.PairNote.{PairNote}
+use Rattle.icu_collator_core.specs.declared.notes.pairs.PairNote.{PairNote}
 use Rattle.icu_collator_core.specs.declared.reading.suffixes.LongerText.{LongerText}
 use Rattle.icu_collator_core.proofs.lookups.LookedUpTextLemmas.{greatest_more, read_more, read_none, read_stopped}
 use Rattle.icu_collator_core.proofs.lookups.MatchLemmas.{match_is}

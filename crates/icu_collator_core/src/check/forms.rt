@@ -7,7 +7,7 @@ ghost use Rattle.icu_collator_core.specs.TableFaults.{AllPassIn, HasWord, IsFirs
 ghost use Rattle.icu_collator_core.specs.TableMeaning.{pools_of};
 ghost use Rattle.icu_collator_core.specs.WordForms.{states_element, is_list_of_words, is_other_own, is_own_word, is_digit_word, is_fallback, ValuesPass, IsContraction, IsUnprefixedWord, IsPrefixed, IsWord, states_primary, keeps_special};
 
-use super::layers::Layer;
+use super::layers::{FALLBACK_CE32, Layer, is_fallback};
 use super::refused_characters::{CharacterTest, first_refused};
 use super::runs::behind_unrecorded;
 use super::values::{ValueTest, values_pass};
@@ -20,9 +20,6 @@ use crate::tables::{CollationData, CollationTables};
 use icu_collator_types::elements::{CollationElement, CollationElement32, Tag};
 use icu_packed_vector::PackedVec;
 use std::alloc::{AllocError, Global};
-
-/// The word by which a tailoring leaves a character to the root.
-const FALLBACK_CE32: u32 = 0xc0;
 
 /// Whether all words of a list from a place on state elements, so many of them, or as many as there are.
 fn all_state_elements(ce32s: &PackedVec<'_, u32>, place: usize, count: usize) -> bool
@@ -76,16 +73,6 @@ fn is_digit_word(source: &CollationData<'_>, word: u32) -> bool
         return false;
     }
     digit_value(word) <= 9 && is_own_word(source, word_at(&source.ce32s, index_of(word)))
-}
-
-/// Whether a word leaves the character to the root.
-pub(super) fn is_fallback(layer: Layer, word: u32) -> bool
-    ensures { result ≡ is_fallback layer word }
-{
-    match layer {
-        Layer::Root => false,
-        Layer::Tailoring => word == FALLBACK_CE32,
-    }
 }
 
 /// The test for words that need no look at other characters.

@@ -4,8 +4,7 @@ ghost use Rattle.std.specs.Prelude.{◌≡◌, ◌<◌, ◌≤◌, ℕ, IsTrue};
 ghost use Rattle.icu_collator_core.specs.TableMeaning.{word_at};
 ghost use Rattle.icu_collator_core.specs.UnrecordedWords.{records_nothing};
 
-use super::forms::is_fallback;
-use super::layers::Layer;
+use super::layers::{Layer, is_fallback};
 use crate::tables::CollationData;
 
 /// The word of a character whose primary its code point gives.

@@ -4,9 +4,9 @@ ghost use Rattle.std.specs.Prelude.{◌≡◌, ◌++◌, ◌∷◌, ℕ, List, [
 ghost use Rattle.std.specs.Iterator.{IsFinite};
 ghost use Rattle.icu_normalizer_core.specs.Iter.{IsFirstOf, Spells};
 
+use super::reader::Reader;
 use super::upcoming::Upcoming;
 use crate::checked::CheckedTables;
-use crate::reading::reader::Reader;
 use icu_collator_types::elements::CollationElement;
 use std::alloc::{AllocError, Global};
 

@@ -12,10 +12,10 @@ ghost use Rattle.icu_collator_core.specs.Elements.{elements_of_list};
 ghost use Rattle.icu_collator_core.specs.ReadSources.{canonical_by, weights_by};
 ghost use Rattle.icu_collator_core.specs.ReadSteps.{IsRead};
 
+use super::runs::push_alone;
 use crate::checked::CheckedTables;
 use crate::reading::decomposing::decompose_into;
 use crate::reading::next::read_next;
-use crate::reading::runs::push_alone;
 use icu_collator_types::elements::CollationElement;
 use icu_normalizer_core::canonical::CanonicalBorrowed;
 use smallvec::SmallVec;
@@ -59,7 +59,7 @@ fn push_next(
     if next == end {
         return Ok(next);
     }
-    let after = read_next(checked, numeric, list, next, elements)?;
+    let after = read_next(checked.sound(), numeric, list, next, elements)?;
     Ok(after)
 }
 

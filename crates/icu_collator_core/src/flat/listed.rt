@@ -1,11 +1,12 @@
 //! Flat reading of a character by its full list, of any length: each character of that is its own full list.
 
-ghost use Rattle.std.specs.Prelude.{◌≡◌, IfSome};
+ghost use Rattle.std.specs.Prelude.{IfSome};
 ghost use Rattle.icu_collator_core.specs.FlatNotes.{IsPushed};
 
-use super::flat_elements::FlatElements;
-use super::notes::{BEFORE_BOUNDARY, note_of};
 use crate::checked::CheckedTables;
+use crate::notes::flat_elements::FlatElements;
+use crate::notes::flat_note::BEFORE_BOUNDARY;
+use crate::notes::flat_notes::note_of;
 
 impl CheckedTables<'_> {
     /// Appends the elements of a character that stands behind one of this class, by its note or by the tables, if it has one,
@@ -27,7 +28,7 @@ impl CheckedTables<'_> {
             let trail = note.push(numeric, before, elements)?;
             return Some(trail);
         }
-        let note = note_of(self, c);
+        let note = note_of(self.sound(), c);
         let trail = note.push(numeric, before, elements)?;
         Some(trail)
     }

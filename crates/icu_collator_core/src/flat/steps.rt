@@ -7,11 +7,12 @@ ghost use Rattle.icu_collator_core.specs.FlatNotes.{IsFlat, IsFlatNote};
 ghost use Rattle.icu_collator_core.specs.FlatSteps.{IsFollowed, IsNextPrimary, IsSettled, StepsTo};
 ghost use Rattle.icu_collator_core.specs.Pools.{element_of};
 ghost use Rattle.icu_collator_core.specs.ReadSources.{canonical_by};
-ghost use Rattle.icu_collator_core.specs.declared.flat.notes.FlatNote.TheVariants.{Boundary};
+ghost use Rattle.icu_collator_core.specs.declared.notes.flat_note.FlatNote.TheVariants.{Boundary};
 ghost use Rattle.icu_collator_core.specs.declared.flat.steps.FlatStep.TheVariants.{Primary};
 
-use super::notes::{BEFORE_BOUNDARY, FlatNote};
-use crate::checked::{CheckedTables, is_own_list};
+use crate::checked::CheckedTables;
+use crate::notes::flat_note::{BEFORE_BOUNDARY, FlatNote};
+use crate::sound::is_own_list;
 use icu_collator_types::elements::CollationElement;
 
 /// The note of a starter: it may stand behind any class, which is at most this.

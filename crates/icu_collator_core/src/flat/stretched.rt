@@ -5,9 +5,9 @@ ghost use Rattle.std.specs.Iterator.{IsFinite};
 ghost use Rattle.icu_collator_core.specs.FlatNotes.{BeginsApart};
 ghost use Rattle.icu_collator_core.specs.Stretched.{HasReadOn, IsUnread, settled_in};
 
-use super::flat_elements::FlatElements;
 use super::stretches::Stretch;
 use crate::checked::CheckedTables;
+use crate::notes::flat_elements::FlatElements;
 use icu_collator_types::elements::CollationElement;
 use std::alloc::{AllocError, Global};
 

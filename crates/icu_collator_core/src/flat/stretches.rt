@@ -4,24 +4,22 @@
 ghost use Rattle.std.specs.Char.{IsScalar};
 ghost use Rattle.std.specs.Prelude.{◌≡◌, ◌≤◌, ◌∷◌, ◌++◌, ℕ, All, Option, List, [], IfOk, IfSome, length, take, true};
 ghost use Rattle.std.specs.Iterator.{IsFinite};
-ghost use lib.Utf8.{scalars};
 ghost use Rattle.icu_normalizer_core.specs.Iter.{Spells};
 ghost use Rattle.icu_collator_core.specs.Acceptance.{CollationSource};
-ghost use Rattle.icu_collator_core.specs.AlikeLists.{IsToldAlone};
 ghost use Rattle.icu_collator_core.specs.ElementLists.{unpacked};
 ghost use Rattle.icu_collator_core.specs.ElementTexts.{text_elements};
 ghost use Rattle.icu_normalizer_core.specs.Canonical.{IsDecomposing, decomposed};
 ghost use Rattle.icu_collator_core.specs.FlatNotes.{BeginsApart, IsFlatNote};
-ghost use Rattle.icu_collator_core.specs.ReadSources.{canonical_by, weights_by};
+ghost use Rattle.icu_collator_core.specs.ReadSources.{canonical_by};
 ghost use Rattle.icu_collator_core.specs.Stretched.{BeginsWithElements, EndsApart};
 ghost use Rattle.icu_collator_core.specs.Stretches.{HasElements, IsClosed, IsOpen};
 
-use super::flat_elements::FlatElements;
-use super::notes::{BEFORE_BOUNDARY, FlatNote};
 use crate::checked::CheckedTables;
 use crate::elements::whole_texts::push_all;
-use crate::reading::checked_words::checked_word;
+use crate::notes::flat_elements::FlatElements;
+use crate::notes::flat_note::{BEFORE_BOUNDARY, FlatNote};
 use crate::reading::decomposing::decompose_into;
+use crate::reading::prefixes::is_told_alone;
 use icu_collator_types::elements::CollationElement;
 use smallvec::SmallVec;
 use std::alloc::{AllocError, Global};
@@ -95,19 +93,6 @@ impl Stretch {
 }
 
 impl CheckedTables<'_> {
-    /// Whether a list is read alike whatever stands before it, as its prefixes tell; `false` for some that are.
-    pub(super) fn is_told_alone(&self, list: &[char]) -> bool
-        requires { scalars list.now ≡ true }
-        ensures { result ≡ true → (numeric : Option ℕ) → IsToldAlone (weights_by numeric self.now) list.now }
-    {
-        for place in 0..list.len() {
-            if !checked_word(self, list[place]).is_told(list, place) {
-                return false;
-            }
-        }
-        true
-    }
-
     /// Puts the elements of a stretch of these characters into an empty list, found by its decomposed list; `false` where what stands
     /// before it may count. Fails only when out of memory.
     fn find_elements(
@@ -123,7 +108,7 @@ impl CheckedTables<'_> {
         let mut list = SmallVec::new(*found.allocator());
         let chars = chars.iter().copied();
         decompose_into(self.canonical(), chars, &mut list)?;
-        if !self.is_told_alone(list.as_slice()) {
+        if !is_told_alone(self.sound(), list.as_slice()) {
             return Ok(false);
         }
         push_all(self, numeric, &mut list, found)?;

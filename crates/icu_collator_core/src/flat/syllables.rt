@@ -4,9 +4,9 @@ ghost use Rattle.std.specs.Prelude.{◌≡◌, ◌<◌, ◌≤◌, true, IfSome}
 ghost use Rattle.icu_normalizer_core.specs.BuiltIn.{is_syllable};
 ghost use Rattle.icu_collator_core.specs.FlatNotes.{IsPushed};
 
-use super::flat_elements::FlatElements;
-use super::notes::BEFORE_BOUNDARY;
 use crate::checked::CheckedTables;
+use crate::notes::flat_elements::FlatElements;
+use crate::notes::flat_note::BEFORE_BOUNDARY;
 
 /// A Hangul letter, by its code point.
 #[inline(always)]

@@ -7,32 +7,32 @@ ghost use Rattle.icu_collator_core.specs.ReadSources.{canonical_by, weights_by};
 ghost use Rattle.icu_collator_core.specs.ReadSteps.{IsReadAs};
 
 use super::numbers::push_number;
-use crate::checked::CheckedTables;
 use crate::reading::checked_words::checked_word;
+use crate::sound::SoundTables;
 use icu_collator_types::elements::CollationElement;
 use smallvec::SmallVec;
 use std::alloc::AllocError;
 
 /// The value of the digit that a character is, if it is one.
-fn digit_at(checked: &CheckedTables<'_>, c: char) -> Option<u8>
-    ensures { result ≡ (weights_by None checked.now).digit c }
+fn digit_at(sound: &SoundTables<'_>, c: char) -> Option<u8>
+    ensures { result ≡ (weights_by None sound.now).digit c }
 {
-    let digit = checked_word(checked, c).digit()?;
+    let digit = checked_word(sound, c).digit()?;
     Some(digit as u8)
 }
 
 /// Appends the values of the digits that stand together at a place of a list. Fails only when out of memory.
 fn push_digits(
-    checked: &CheckedTables<'_>,
+    sound: &SoundTables<'_>,
     list: &[char],
     place: usize,
     digits: &mut SmallVec<u8, 32>,
 ) -> Result<(), AllocError>
     requires { place ≤ length list.now }
-    ensures { OnOk result (digits.new.items ≡ digits.old.items ++ leading_digits (weights_by None checked.now).digit (drop place list.now)) }
+    ensures { OnOk result (digits.new.items ≡ digits.old.items ++ leading_digits (weights_by None sound.now).digit (drop place list.now)) }
 {
     for i in place..list.len() {
-        match digit_at(checked, list[i]) {
+        match digit_at(sound, list[i]) {
             Some(digit) => digits.push(digit)?,
             None => return Ok(()),
         }
@@ -43,22 +43,22 @@ fn push_digits(
 /// Reads the number at a place of a list: appends the elements of the digits that stand there together, with this lead
 /// byte; answers where what is left begins. Fails only when out of memory.
 pub(crate) fn read_number(
-    checked: &CheckedTables<'_>,
+    sound: &SoundTables<'_>,
     lead: u8,
     list: &[char],
     place: usize,
     ready: &mut SmallVec<CollationElement, 32>,
 ) -> Result<usize, AllocError>
     requires inside { place < length list.now }
-    requires digit { is_some ((weights_by (Some lead) checked.now).digit (slice_index list.now place)) ≡ true }
-    ensures read { IfOk result (λ next. IsReadAs (canonical_by checked.now) (weights_by (Some lead) checked.now)
-        (number_reading (weights_by (Some lead) checked.now) (drop place (placed list.now))) ready.old.items list.now next ready.new.items) }
+    requires digit { is_some ((weights_by (Some lead) sound.now).digit (slice_index list.now place)) ≡ true }
+    ensures read { IfOk result (λ next. IsReadAs (canonical_by sound.now) (weights_by (Some lead) sound.now)
+        (number_reading (weights_by (Some lead) sound.now) (drop place (placed list.now))) ready.old.items list.now next ready.new.items) }
     ensures onward { IfOk result (λ next. place < next) }
     ensures within { IfOk result (λ next. next ≤ length list.now) }
 {
-    checked.keep_promise();
+    sound.keep_promise();
     let mut digits: SmallVec<u8, 32> = SmallVec::new(*ready.allocator());
-    push_digits(checked, list, place, &mut digits)?;
+    push_digits(sound, list, place, &mut digits)?;
     push_number(lead, &digits, ready)?;
     Ok(place + digits.len())
 }

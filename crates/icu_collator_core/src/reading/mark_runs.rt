@@ -17,9 +17,9 @@ ghost use Rattle.icu_collator_core.specs.ReadWords.{AreSaidBy, table_word};
 ghost use Rattle.icu_collator_core.specs.TableSettings.{has_bit};
 ghost use Rattle.icu_collator_core.specs.Weights.{Weights};
 
+use super::accents::{is_accent, is_accent_at};
 use super::checked_words::checked_word;
-use super::next::{is_accent, is_accent_at};
-use crate::checked::CheckedTables;
+use crate::sound::SoundTables;
 use crate::table_words::counting_words::CountingWord;
 use crate::table_words::defaults::special_primary;
 use crate::tables::CollationTables;
@@ -317,7 +317,7 @@ fn push_joined(
 /// Reads a mark that stands before what is left of a run, and takes the marks that join it out of that: appends its
 /// elements. Fails only when out of memory.
 fn read_mark(
-    checked: &CheckedTables<'_>,
+    sound: &SoundTables<'_>,
     c: char,
     classes: &mut [ClassMarks<'_>],
     list: &[char],
@@ -326,25 +326,25 @@ fn read_mark(
 ) -> Result<(), AllocError>
     requires inside { end ≤ length list.now }
     requires characters { scalars list.now ≡ true }
-    requires mark { not ((canonical_by checked.now).class c == 0) ≡ true }
-    requires marks { are_of_classes (canonical_by checked.now).class classes.old ≡ true }
-    requires ended { ends_run (canonical_by checked.now).class (drop end (placed list.now)) ≡ true }
+    requires mark { not ((canonical_by sound.now).class c == 0) ≡ true }
+    requires marks { are_of_classes (canonical_by sound.now).class classes.old ≡ true }
+    requires ended { ends_run (canonical_by sound.now).class (drop end (placed list.now)) ≡ true }
     ensures read { OnOk result ((numeric : Option ℕ) (p : Placed) (here : List Placed) → p.character ≡ c → characters_of here ≡ marks_left classes.old
-        → HasReadFirst (reading (canonical_by checked.now) (weights_by numeric checked.now) (is_some numeric) p (here ++ drop end (placed list.now))) (drop end (placed list.now)) classes.new ready.old.items ready.new.items) }
-    ensures marks { are_of_classes (canonical_by checked.now).class classes.new ≡ true }
+        → HasReadFirst (reading (canonical_by sound.now) (weights_by numeric sound.now) (is_some numeric) p (here ++ drop end (placed list.now))) (drop end (placed list.now)) classes.new ready.old.items ready.new.items) }
+    ensures marks { are_of_classes (canonical_by sound.now).class classes.new ≡ true }
     ensures fewer { length (marks_left classes.new) ≤ length (marks_left classes.old) }
 {
-    checked.keep_promise();
+    sound.keep_promise();
     match special_primary(c as u32) {
         Some(primary) => {
             ready.push(CollationElement::new_from_primary(primary))?;
             Ok(())
         }
         None => {
-            if is_dropped(checked.tables(), c, classes, list, end) {
+            if is_dropped(sound.tables(), c, classes, list, end) {
                 return Ok(());
             }
-            let entry = checked_word(checked, c);
+            let entry = checked_word(sound, c);
             push_joined(entry, c, classes, ready)?;
             Ok(())
         }
@@ -354,7 +354,7 @@ fn read_mark(
 /// Reads what is left of a run, which stands in a list between two places: appends the elements. Fails only when out of
 /// memory.
 fn read_gathered(
-    checked: &CheckedTables<'_>,
+    sound: &SoundTables<'_>,
     list: &[char],
     place: usize,
     end: usize,
@@ -365,16 +365,16 @@ fn read_gathered(
     requires inside { end ≤ length list.now }
     requires characters { scalars list.now ≡ true }
     requires left { marks_left classes.old ≡ drop place (take end list.now) }
-    requires marks { are_of_classes (canonical_by checked.now).class classes.old ≡ true }
-    requires ended { ends_run (canonical_by checked.now).class (drop end (placed list.now)) ≡ true }
+    requires marks { are_of_classes (canonical_by sound.now).class classes.old ≡ true }
+    requires ended { ends_run (canonical_by sound.now).class (drop end (placed list.now)) ≡ true }
     ensures { OnOk result ((numeric : Option ℕ)
-        → IsRead (canonical_by checked.now) (weights_by numeric checked.now) (is_some numeric) list.now place (unpacked ready.old.items) list.now end (unpacked ready.new.items)) }
+        → IsRead (canonical_by sound.now) (weights_by numeric sound.now) (is_some numeric) list.now place (unpacked ready.old.items) list.now end (unpacked ready.new.items)) }
 {
     for _mark in place..end {
         let Some(c) = take_first(classes) else {
             return Ok(());
         };
-        read_mark(checked, c, classes, list, end, ready)?;
+        read_mark(sound, c, classes, list, end, ready)?;
     }
     Ok(())
 }
@@ -382,21 +382,21 @@ fn read_gathered(
 /// Reads the marks that stand in a list from a place on, up to the next starter: appends their elements, and answers where
 /// that starter stands. Takes time in proportion to the run, with as many classes as it has. Fails only when out of memory.
 pub(crate) fn read_marks(
-    checked: &CheckedTables<'_>,
+    sound: &SoundTables<'_>,
     list: &[char],
     place: usize,
     ready: &mut SmallVec<CollationElement, 32>,
 ) -> Result<usize, AllocError>
     requires inside { place < length list.now }
     requires characters { scalars list.now ≡ true }
-    requires mark { not ((canonical_by checked.now).class (slice_index list.now place) == 0) ≡ true }
+    requires mark { not ((canonical_by sound.now).class (slice_index list.now place) == 0) ≡ true }
     ensures read { IfOk result (λ next. (numeric : Option ℕ)
-        → IsRead (canonical_by checked.now) (weights_by numeric checked.now) (is_some numeric) list.now place (unpacked ready.old.items) list.now next (unpacked ready.new.items)) }
+        → IsRead (canonical_by sound.now) (weights_by numeric sound.now) (is_some numeric) list.now place (unpacked ready.old.items) list.now next (unpacked ready.new.items)) }
     ensures onward { IfOk result (λ next. place < next) }
     ensures within { IfOk result (λ next. next ≤ length list.now) }
 {
     let mut classes = Vec::new(*ready.allocator());
-    let end = gather(checked.canonical(), list, place, &mut classes)?;
-    read_gathered(checked, list, place, end, &mut classes, ready)?;
+    let end = gather(sound.canonical(), list, place, &mut classes)?;
+    read_gathered(sound, list, place, end, &mut classes, ready)?;
     Ok(end)
 }

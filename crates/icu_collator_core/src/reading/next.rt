@@ -12,35 +12,17 @@ ghost use Rattle.icu_collator_core.specs.ReadWords.{AreSaidBy, table_word};
 ghost use Rattle.icu_collator_core.specs.TableMeaning.{digit_by};
 ghost use Rattle.icu_collator_core.specs.TableSettings.{has_bit};
 
+use super::accents::is_accent_at;
 use super::checked_words::checked_word;
 use super::digits::read_number;
 use super::mark_runs::{begins_long_run, read_marks};
-use crate::checked::CheckedTables;
+use crate::sound::SoundTables;
 use crate::table_words::counting_words::CountingWord;
 use crate::table_words::defaults::special_primary;
 use crate::tables::CollationTables;
 use icu_collator_types::elements::CollationElement;
 use smallvec::SmallVec;
 use std::alloc::AllocError;
-
-/// Whether a character is a grave, an acute or a tilde.
-pub(super) fn is_accent(c: char) -> bool
-    ensures { result ≡ ((c == 0x300) || (c == 0x301) || (c == 0x303)) }
-{
-    c == '\u{300}' || c == '\u{301}' || c == '\u{303}'
-}
-
-/// Whether a grave, an acute or a tilde stands at a place of a list.
-pub(super) fn is_accent_at(list: &[char], place: usize) -> bool
-    requires { place ≤ length list.now }
-    ensures { result ≡ is_before_accent (drop place (placed list.now)) }
-{
-    if place < list.len() {
-        is_accent(list[place])
-    } else {
-        false
-    }
-}
 
 /// Whether a character is a dot above that is dropped, by what stands behind it from a place of a list on.
 fn is_dropped(tables: &CollationTables<'_>, c: char, list: &[char], behind: usize) -> bool
@@ -64,34 +46,19 @@ fn number_lead(entry: CountingWord<'_>, numeric: Option<u8>) -> Option<u8>
 }
 
 /// The element of a character, if nothing that stands before or behind it changes it, by the tables alone.
-pub(crate) fn find_alone(checked: &CheckedTables<'_>, c: char) -> Option<CollationElement>
-    ensures { IfSome result (λ bits. IsAloneAnywhere checked.now c bits) }
+pub(crate) fn find_alone(sound: &SoundTables<'_>, c: char) -> Option<CollationElement>
+    ensures { IfSome result (λ bits. IsAloneAnywhere sound.now c bits) }
 {
     if c == '\u{307}' || special_primary(c as u32).is_some() {
         return None;
     }
-    let element = checked_word(checked, c).alone_element(c)?;
+    let element = checked_word(sound, c).alone_element(c)?;
     Some(element)
-}
-
-/// The element of a character, if nothing that stands before or behind it changes it: for a low character by what is noted
-/// of it.
-#[inline]
-pub(crate) fn alone_at(checked: &CheckedTables<'_>, c: char) -> Option<CollationElement>
-    ensures { IfSome result (λ bits. IsAloneAnywhere checked.now c bits) }
-{
-    match checked.collation_note(c) {
-        Some(note) => {
-            let element = note.alone()?;
-            Some(element)
-        }
-        None => find_alone(checked, c),
-    }
 }
 
 /// Reads a character that is neither special nor a digit that counts. Fails only when out of memory.
 fn read_uncounted(
-    checked: &CheckedTables<'_>,
+    sound: &SoundTables<'_>,
     numeric: Option<u8>,
     entry: CountingWord<'_>,
     c: char,
@@ -102,26 +69,26 @@ fn read_uncounted(
     requires inside { place < small_vec_len list.old }
     requires here { drop place list.old.items ≡ c ∷ drop (place + 1) list.old.items }
     requires characters { scalars list.old.items ≡ true }
-    requires said { AreSaidBy (weights_by numeric checked.now) (table_word entry) c }
+    requires said { AreSaidBy (weights_by numeric sound.now) (table_word entry) c }
     requires ordinary { special_primary c ≡ None }
     requires uncounted { (is_some numeric && is_some (digit_by (table_word entry))) ≡ false }
-    ensures read { IfOk result (λ next. IsRead (canonical_by checked.now) (weights_by numeric checked.now) (is_some numeric) list.old.items place (unpacked ready.old.items) list.new.items next (unpacked ready.new.items)) }
+    ensures read { IfOk result (λ next. IsRead (canonical_by sound.now) (weights_by numeric sound.now) (is_some numeric) list.old.items place (unpacked ready.old.items) list.new.items next (unpacked ready.new.items)) }
     ensures kept { scalars list.new.items ≡ true }
     ensures same_length { small_vec_len list.new ≡ small_vec_len list.old }
     ensures onward { IfOk result (λ next. place < next) }
     ensures within { IfOk result (λ next. next ≤ small_vec_len list.old) }
 {
-    checked.keep_promise();
-    if is_dropped(checked.tables(), c, list, place + 1) {
+    sound.keep_promise();
+    if is_dropped(sound.tables(), c, list, place + 1) {
         return Ok(place + 1);
     }
-    let next = entry.read_text(checked.canonical(), c, list, place, ready)?;
+    let next = entry.read_text(sound.canonical(), c, list, place, ready)?;
     Ok(next)
 }
 
 /// Reads a character that isn't special. Fails only when out of memory.
 fn read_ordinary(
-    checked: &CheckedTables<'_>,
+    sound: &SoundTables<'_>,
     numeric: Option<u8>,
     c: char,
     list: &mut SmallVec<char, 64>,
@@ -132,21 +99,21 @@ fn read_ordinary(
     requires here { drop place list.old.items ≡ c ∷ drop (place + 1) list.old.items }
     requires characters { scalars list.old.items ≡ true }
     requires ordinary { special_primary c ≡ None }
-    ensures read { IfOk result (λ next. IsRead (canonical_by checked.now) (weights_by numeric checked.now) (is_some numeric) list.old.items place (unpacked ready.old.items) list.new.items next (unpacked ready.new.items)) }
+    ensures read { IfOk result (λ next. IsRead (canonical_by sound.now) (weights_by numeric sound.now) (is_some numeric) list.old.items place (unpacked ready.old.items) list.new.items next (unpacked ready.new.items)) }
     ensures kept { scalars list.new.items ≡ true }
     ensures same_length { small_vec_len list.new ≡ small_vec_len list.old }
     ensures onward { IfOk result (λ next. place < next) }
     ensures within { IfOk result (λ next. next ≤ small_vec_len list.old) }
 {
-    checked.keep_promise();
-    let entry = checked_word(checked, c);
+    sound.keep_promise();
+    let entry = checked_word(sound, c);
     match number_lead(entry, numeric) {
         Some(lead) => {
-            let next = read_number(checked, lead, list, place, ready)?;
+            let next = read_number(sound, lead, list, place, ready)?;
             Ok(next)
         }
         None => {
-            let next = read_uncounted(checked, numeric, entry, c, list, place, ready)?;
+            let next = read_uncounted(sound, numeric, entry, c, list, place, ready)?;
             Ok(next)
         }
     }
@@ -155,7 +122,7 @@ fn read_ordinary(
 /// Reads the character at a place of a list, with what is read with it: appends its elements, and answers where what is
 /// left begins. Marks that join a text are moved in front of those left between. Fails only when out of memory.
 fn read_character(
-    checked: &CheckedTables<'_>,
+    sound: &SoundTables<'_>,
     numeric: Option<u8>,
     list: &mut SmallVec<char, 64>,
     place: usize,
@@ -163,13 +130,13 @@ fn read_character(
 ) -> Result<usize, AllocError>
     requires inside { place < small_vec_len list.old }
     requires characters { scalars list.old.items ≡ true }
-    ensures read { IfOk result (λ next. IsRead (canonical_by checked.now) (weights_by numeric checked.now) (is_some numeric) list.old.items place (unpacked ready.old.items) list.new.items next (unpacked ready.new.items)) }
+    ensures read { IfOk result (λ next. IsRead (canonical_by sound.now) (weights_by numeric sound.now) (is_some numeric) list.old.items place (unpacked ready.old.items) list.new.items next (unpacked ready.new.items)) }
     ensures kept { scalars list.new.items ≡ true }
     ensures same_length { small_vec_len list.new ≡ small_vec_len list.old }
     ensures onward { IfOk result (λ next. place < next) }
     ensures within { IfOk result (λ next. next ≤ small_vec_len list.old) }
 {
-    checked.keep_promise();
+    sound.keep_promise();
     let c = list[place];
     match special_primary(c as u32) {
         Some(primary) => {
@@ -177,7 +144,7 @@ fn read_character(
             Ok(place + 1)
         }
         None => {
-            let next = read_ordinary(checked, numeric, c, list, place, ready)?;
+            let next = read_ordinary(sound, numeric, c, list, place, ready)?;
             Ok(next)
         }
     }
@@ -187,7 +154,7 @@ fn read_character(
 /// elements, and answers where what is left begins. Marks that join a text are moved in front of those left between.
 /// Fails only when out of memory.
 pub(crate) fn read_next(
-    checked: &CheckedTables<'_>,
+    sound: &SoundTables<'_>,
     numeric: Option<u8>,
     list: &mut SmallVec<char, 64>,
     place: usize,
@@ -195,16 +162,16 @@ pub(crate) fn read_next(
 ) -> Result<usize, AllocError>
     requires inside { place < small_vec_len list.old }
     requires characters { scalars list.old.items ≡ true }
-    ensures read { IfOk result (λ next. IsRead (canonical_by checked.now) (weights_by numeric checked.now) (is_some numeric) list.old.items place (unpacked ready.old.items) list.new.items next (unpacked ready.new.items)) }
+    ensures read { IfOk result (λ next. IsRead (canonical_by sound.now) (weights_by numeric sound.now) (is_some numeric) list.old.items place (unpacked ready.old.items) list.new.items next (unpacked ready.new.items)) }
     ensures kept { scalars list.new.items ≡ true }
     ensures same_length { small_vec_len list.new ≡ small_vec_len list.old }
     ensures onward { IfOk result (λ next. place < next) }
     ensures within { IfOk result (λ next. next ≤ small_vec_len list.old) }
 {
-    if begins_long_run(checked.canonical(), list, place) {
-        let end = read_marks(checked, list, place, ready)?;
+    if begins_long_run(sound.canonical(), list, place) {
+        let end = read_marks(sound, list, place, ready)?;
         return Ok(end);
     }
-    let next = read_character(checked, numeric, list, place, ready)?;
+    let next = read_character(sound, numeric, list, place, ready)?;
     Ok(next)
 }

@@ -1,18 +1,21 @@
 //! The longest recorded prefix that stands before a character.
 
-ghost use Rattle.std.specs.Prelude.{◌≡◌, ◌≤◌, ℕ, List, length, take, true};
+ghost use Rattle.std.specs.Prelude.{◌≡◌, ◌≤◌, ℕ, List, Option, length, take, true};
 ghost use Rattle.std.specs.Option.{option_and_then};
 ghost use lib.Utf8.{scalars};
 ghost use Rattle.icu_char16trie.specs.Cursors.{trie_units};
-ghost use Rattle.icu_collator_core.specs.AlikeLists.{IsToldAt};
+ghost use Rattle.icu_collator_core.specs.AlikeLists.{IsToldAlone, IsToldAt};
 ghost use Rattle.icu_collator_core.specs.Elements.{prefix_match};
 ghost use Rattle.icu_collator_core.specs.Pools.{Pools, elements_of_word};
+ghost use Rattle.icu_collator_core.specs.ReadSources.{weights_by};
 ghost use Rattle.icu_collator_core.specs.ReadTexts.{characters_before, characters_behind, longest_text, prefixed_by};
 ghost use Rattle.icu_collator_core.specs.ReadWords.{AreSaidBy, table_word};
 ghost use Rattle.icu_collator_core.specs.TableMeaning.{pools_of};
 ghost use Rattle.icu_collator_core.specs.Weights.{Weights};
 
+use super::checked_words::checked_word;
 use super::suffixes::{LongerText, context_of, is_last, longer_of};
+use crate::sound::SoundTables;
 use crate::table_words::counting_words::CountingWord;
 use crate::table_words::fields::has_tag;
 use crate::tables::CollationData;
@@ -112,4 +115,17 @@ impl CountingWord<'_> {
     {
         self.is_prefix_told(list, place)
     }
+}
+
+/// Whether a list is read alike whatever stands before it, as its prefixes tell; `false` for some that are.
+pub(crate) fn is_told_alone(sound: &SoundTables<'_>, list: &[char]) -> bool
+    requires { scalars list.now ≡ true }
+    ensures { result ≡ true → (numeric : Option ℕ) → IsToldAlone (weights_by numeric sound.now) list.now }
+{
+    for place in 0..list.len() {
+        if !checked_word(sound, list[place]).is_told(list, place) {
+            return false;
+        }
+    }
+    true
 }

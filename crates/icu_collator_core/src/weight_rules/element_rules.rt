@@ -3,7 +3,7 @@
 ghost use Rattle.std.specs.Prelude.{◌≡◌, ◌&&◌, ◌∷◌, [], not};
 ghost use Rattle.icu_collator_core.specs.WeightRules.{are_inner_bytes, is_empty, is_letter_lead, is_sound_element, is_sound_kind, is_sound_primary, is_sound_secondary, is_sound_tertiary, primary_rest};
 
-use super::LeadBytes;
+use super::lead_bytes::LeadBytes;
 use icu_collator_types::elements::{COMMON_WEIGHT, Element};
 
 /// Whether a lead byte may be used by letters, numbers and ranges.

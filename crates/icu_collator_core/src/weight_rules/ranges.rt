@@ -5,7 +5,8 @@ ghost use Rattle.icu_collator_core.specs.PrimaryRanges.{range_of};
 ghost use Rattle.icu_collator_core.specs.WeightFaults.{keeps_lead};
 ghost use Rattle.icu_collator_core.specs.WeightRules.{are_disjoint, is_of_other_lead, is_sound_range, lowest_second, second_count, stays_in_lead};
 
-use super::{LeadBytes, is_sound_primary};
+use super::element_rules::is_sound_primary;
+use super::lead_bytes::LeadBytes;
 use icu_collator_types::elements::Element;
 
 /// Characters whose primaries follow each other.

@@ -1,6 +1,6 @@
 use Rattle.std.proofs.Common.{◌≡◌, rules, subst}
 use Rattle.icu_collator_core.specs.FlatNotes.{IsFlatNote}
-use Rattle.icu_collator_core.specs.declared.flat.notes.FlatNote.{FlatNote}
+use Rattle.icu_collator_core.specs.declared.notes.flat_note.FlatNote.{FlatNote}
 use Rattle.icu_collator_core.proofs.checked.CheckedTables.boundary_element.Goals as goal
 
 pub returns-clause-flat : goal.returns-clause-flat

@@ -3,6 +3,7 @@ use Rattle.std.proofs.lemmas.Iterator.{YieldsList, YieldsList-from_slice}
 use Rattle.std.proofs.lemmas.Iterator.Consumers.{YieldsList-from_copied}
 use Rattle.icu_normalizer_core.specs.Canonical.{decomposed}
 use Rattle.icu_normalizer_core.specs.CanonicalMeaning.{meaning}
+use Rattle.icu_collator_core.specs.Acceptance.{CollationSource}
 use Rattle.icu_collator_core.specs.AlikeLists.{IsToldAlone}
 use Rattle.icu_collator_core.specs.ReadSources.{weights_by}
 use Rattle.icu_collator_core.specs.Stretches.{HasElements}
@@ -19,6 +20,7 @@ returns c = λ _.
     subst (λ (l : List ℕ). HasElements source numeric l c.push_all.new.elements.items) is
     (record {
       characters = c.in_ok-decompose_into.ensures.characters;
-      alone = subst (λ (l : List ℕ). IsToldAlone (weights_by numeric source) l) c.as_slice.ensures (c.is_told_alone.ensures told numeric);
+      alone = subst (λ (l : List ℕ). IsToldAlone (weights_by numeric source) l) c.as_slice.ensures
+          (subst (λ (source : CollationSource). IsToldAlone (weights_by numeric source) c.as_slice.result.now) c.sound.ensures (c.is_told_alone.ensures told numeric));
       elements = c.in_ok-push_all.ensures;
     })

@@ -2,13 +2,13 @@ use Rattle.std.proofs.Common.{◌≡◌, ℕ, ◌/◌, ◌%◌, List, [], get_or
 use Rattle.std.proofs.lemmas.Nat.{div-add-mod'}
 use Rattle.icu_collator_core.specs.Acceptance.{CollationSource}
 use Rattle.icu_collator_core.specs.FlatNotes.{IsFlatNote}
-use Rattle.icu_collator_core.specs.declared.flat.notes.FlatNote.{FlatNote}
-use Rattle.icu_collator_core.specs.declared.flat.notes.FlatNote.TheVariants.{Other}
+use Rattle.icu_collator_core.specs.declared.notes.flat_note.FlatNote.{FlatNote}
+use Rattle.icu_collator_core.specs.declared.notes.flat_note.FlatNote.TheVariants.{Other}
 use Rattle.icu_collator_core.proofs.checked.CheckedTables.paged_note.Goals as goal
 
 pub returns : goal.returns
 returns c =
-    let source : CollationSource = record { canonical = c.self.inside.canonical; tables = c.self.inside.tables } in
+    let source : CollationSource = c.self.inside.sound in
     let code = c.args.c in
     let pages = c.self.inside.pages.items in
     let page = c.in_ok-page.page.now in
@@ -18,4 +18,4 @@ returns c =
     subst (λ (source : CollationSource). IsFlatNote source code note) c.self.view_is
     (subst (λ (n : FlatNote). IsFlatNote source code n) (sym (c.in_ok-note.ensures ∙ ap (λ (p : List FlatNote). get_or p (code % 64) Other) page_is))
     (subst (λ (d : ℕ). IsFlatNote source d (get_or (get_or pages (code / 64) []) (code % 64) Other)) (div-add-mod' code 64)
-    (c.self.invariant.4 (code / 64) (code % 64))))
+    (c.self.invariant.2 (code / 64) (code % 64))))

@@ -1,5 +1,6 @@
 use Rattle.std.proofs.Common.{◌∙◌, ℕ, List, subst}
 use Rattle.std.specs.Option.{is_some}
+use Rattle.icu_collator_core.specs.Acceptance.{CollationSource}
 use Rattle.icu_collator_core.specs.ElementLists.{unpacked}
 use Rattle.icu_collator_core.specs.ReadSources.{canonical_by, weights_by}
 use Rattle.icu_collator_core.specs.ReadSteps.{IsRead}
@@ -23,5 +24,6 @@ returns-clause-read c =
     let next = c.in_ok-next.next in
     let before = unpacked c.args.elements.now.items in
     let behind = unpacked c.push_alone.new.elements.items in
-    c.in_ok-after.ensures.read
+    subst (λ (s : CollationSource). IsRead (canonical_by s) (weights_by numeric s) (is_some numeric) c.args.list.now.items next behind c.read_next.new.list.items c.in_ok-after.after
+    (unpacked c.read_next.new.ready.items)) c.sound.ensures c.in_ok-after.ensures.read
     ∙ subst (λ (l : List ℕ). IsRead (canonical_by source) (weights_by numeric source) (is_some numeric) l place before l next behind) c.deref.ensures (c.in_ok-next.ensures.read numeric)

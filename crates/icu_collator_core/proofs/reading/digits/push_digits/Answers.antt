@@ -6,7 +6,7 @@ use Rattle.icu_collator_core.proofs.reading.digits.push_digits.Goals as goal
 
 pub returns-in-None : goal.returns-in-None
 returns-in-None c =
-    let digit = (weights_by None c.args.checked.now).digit in
+    let digit = (weights_by None c.args.sound.now).digit in
     let list = c.args.list.now in
     let inside : c.loop-i.i < length list = omega arith in
     no_digit_read digit list c.loop-i.i c.loop-i.digits.items (c.args.digits.now.items ++ leading_digits digit (drop c.args.place list))
@@ -14,7 +14,7 @@ returns-in-None c =
 
 pub loop-i-preserved : goal.loop-i-preserved
 loop-i-preserved c =
-    let digit = (weights_by None c.args.checked.now).digit in
+    let digit = (weights_by None c.args.sound.now).digit in
     let list = c.args.list.now in
     let inside : c.loop-i.i < length list = omega arith in
     digit_read digit list c.loop-i.i c.loop-i.digits.items (c.args.digits.now.items ++ leading_digits digit (drop c.args.place list))
@@ -22,7 +22,7 @@ loop-i-preserved c =
 
 pub returns : goal.returns
 returns c =
-    let digit = (weights_by None c.args.checked.now).digit in
+    let digit = (weights_by None c.args.sound.now).digit in
     let list = c.args.list.now in
     let past : length list ≤ c.loop-i.i = let end = c.loop-i-test.false in omega (arith, end) in
     all_read digit list c.loop-i.i c.loop-i.digits.items (c.args.digits.now.items ++ leading_digits digit (drop c.args.place list)) past c.loop-i.invariant

@@ -12,7 +12,7 @@ use Rattle.icu_collator_core.proofs.reading.digits.read_number.Goals as goal
 
 pub push_number-requires : goal.push_number-requires
 push_number-requires c =
-    let source = c.args.checked.now in
+    let source = c.args.sound.now in
     let digit = (weights_by (Some c.args.lead) source).digit in
     let cs = drop c.args.place c.args.list.now in
     let found : c.deref.result.now ≡ leading_digits digit cs =
@@ -21,7 +21,7 @@ push_number-requires c =
 
 pub returns-clause-read : goal.returns-clause-read
 returns-clause-read c =
-    let source = c.args.checked.now in
+    let source = c.args.sound.now in
     let canonical = canonical_by source in
     let weights = weights_by (Some c.args.lead) source in
     let list = c.args.list.now in
@@ -38,7 +38,7 @@ returns-clause-read c =
 
 pub returns-clause-onward : goal.returns-clause-onward
 returns-clause-onward c =
-    let digit = (weights_by (Some c.args.lead) c.args.checked.now).digit in
+    let digit = (weights_by (Some c.args.lead) c.args.sound.now).digit in
     let ds = leading_digits digit (drop c.args.place c.args.list.now) in
     let count : c.len.result ≡ length ds = c.len.ensures.value ∙ ap length (c.in_ok-push_digits.ensures ∙ ap (λ l. l ++ ds) c.new-digits.ensures.items) in
     let some = some_lead digit c.args.list.now c.args.place c.requires.inside c.requires.digit in
@@ -46,7 +46,7 @@ returns-clause-onward c =
 
 pub returns-clause-within : goal.returns-clause-within
 returns-clause-within c =
-    let digit = (weights_by (Some c.args.lead) c.args.checked.now).digit in
+    let digit = (weights_by (Some c.args.lead) c.args.sound.now).digit in
     let ds = leading_digits digit (drop c.args.place c.args.list.now) in
     let count : c.len.result ≡ length ds = c.len.ensures.value ∙ ap length (c.in_ok-push_digits.ensures ∙ ap (λ l. l ++ ds) c.new-digits.ensures.items) in
     let inside = c.requires.inside in

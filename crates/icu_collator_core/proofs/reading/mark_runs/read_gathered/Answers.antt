@@ -8,7 +8,7 @@ use Rattle.icu_collator_core.proofs.reading.mark_runs.read_gathered.Goals as goa
 
 pub loop-mark-init : goal.loop-mark-init
 loop-mark-init c =
-    let source = c.args.checked.now in
+    let source = c.args.sound.now in
     let list = c.args.list.now in
     let place = c.args.place in
     let end = c.args.end in
@@ -24,12 +24,12 @@ loop-mark-init c =
 
 pub read_mark-requires-clause-mark : goal.read_mark-requires-clause-mark
 read_mark-requires-clause-mark c =
-    first_is_mark (canonical_by c.args.checked.now).class c.loop-mark.classes c.in-Some.c (marks_left c.take_first.new.classes) c.loop-mark.invariant.marks
+    first_is_mark (canonical_by c.args.sound.now).class c.loop-mark.classes c.in-Some.c (marks_left c.take_first.new.classes) c.loop-mark.invariant.marks
     c.in-Some.ensures.taken
 
 pub loop-mark-preserved : goal.loop-mark-preserved
 loop-mark-preserved c =
-    let source = c.args.checked.now in
+    let source = c.args.sound.now in
     let old = c.loop-mark.classes in
     let mid = c.take_first.new.classes in
     let new = c.read_mark.new.classes in
@@ -45,13 +45,13 @@ loop-mark-preserved c =
 
 pub returns-in_default : goal.returns-in_default
 returns-in_default c = λ numeric.
-    let source = c.args.checked.now in
+    let source = c.args.sound.now in
     run_ends (canonical_by source) (weights_by numeric source) (is_some numeric) c.args.list.now c.args.place c.args.end c.args.ready.now.items
     c.loop-mark.classes c.loop-mark.ready.items c.in_default.ensures.taken (c.loop-mark.invariant.run numeric)
 
 pub returns : goal.returns
 returns c = λ numeric.
-    let source = c.args.checked.now in
+    let source = c.args.sound.now in
     let few : length (marks_left c.loop-mark.classes) ≤ 0 =
     let before = c.loop-mark.invariant.fewer in let past = c.loop-mark-test.false in omega (arith, before, past) in
     run_ends (canonical_by source) (weights_by numeric source) (is_some numeric) c.args.list.now c.args.place c.args.end c.args.ready.now.items

@@ -9,7 +9,7 @@ abbrev pub invariant-loop-mark : goal.invariant-loop-mark
 invariant-loop-mark l =
     record {
       fewer : l._mark + length (marks_left l.classes) ≤ l.end;
-      marks : are_of_classes (canonical_by l.checked).class l.classes ≡ true;
+      marks : are_of_classes (canonical_by l.sound).class l.classes ≡ true;
       run : (numeric : Option ℕ)
-          → HasRunTo (canonical_by l.checked) (weights_by numeric l.checked) (is_some numeric) l.list l.place l.end l.initial.ready.items l.classes l.ready.items;
+          → HasRunTo (canonical_by l.sound) (weights_by numeric l.sound) (is_some numeric) l.list l.place l.end l.initial.ready.items l.classes l.ready.items;
     }

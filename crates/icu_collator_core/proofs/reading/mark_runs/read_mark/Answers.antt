@@ -24,7 +24,7 @@ use Rattle.icu_collator_core.proofs.reading.mark_runs.read_mark.Goals as goal
 
 pub returns-in_ok-push-in-Some-clause-read : goal.returns-in_ok-push-in-Some-clause-read
 returns-in_ok-push-in-Some-clause-read c = λ numeric p here same is.
-    let source = c.args.checked.now in
+    let source = c.args.sound.now in
     let behind = drop c.args.end (placed c.args.list.now) in
     let primary = c.in-Some.primary in
     let ready = c.args.ready.now.items in
@@ -35,7 +35,7 @@ returns-in_ok-push-in-Some-clause-read c = λ numeric p here same is.
 
 pub returns-then-is_dropped-clause-read : goal.returns-then-is_dropped-clause-read
 returns-then-is_dropped-clause-read c = λ numeric p here same is.
-    let source = c.args.checked.now in
+    let source = c.args.sound.now in
     let canonical = canonical_by source in
     let weights = weights_by numeric source in
     let behind = drop c.args.end (placed c.args.list.now) in
@@ -52,7 +52,7 @@ returns-then-is_dropped-clause-read c = λ numeric p here same is.
 
 pub returns-in_ok-push_joined-in-None-clause-read : goal.returns-in_ok-push_joined-in-None-clause-read
 returns-in_ok-push_joined-in-None-clause-read c = λ numeric p here same is.
-    let source = c.args.checked.now in
+    let source = c.args.sound.now in
     let canonical = canonical_by source in
     let weights = weights_by numeric source in
     let list = c.args.list.now in

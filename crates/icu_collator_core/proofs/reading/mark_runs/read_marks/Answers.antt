@@ -13,20 +13,20 @@ read_gathered-requires-clause-left c = ap marks_left c.deref_mut.ensures.value �
 
 pub read_gathered-requires-clause-marks : goal.read_gathered-requires-clause-marks
 read_gathered-requires-clause-marks c =
-    let canonical = canonical_by c.args.checked.now in
+    let canonical = canonical_by c.args.sound.now in
     let same : borrowed_meaning c.canonical.result ≡ canonical = ap meaning c.canonical.ensures in
     ap (are_of_classes canonical.class) c.deref_mut.ensures.value
     ∙ ap (λ (k : Canonical). are_of_classes k.class c.gather.new.classes.items) (sym same) ∙ c.in_ok-end.ensures.marks
 
 pub read_gathered-requires-clause-ended : goal.read_gathered-requires-clause-ended
 read_gathered-requires-clause-ended c =
-    let canonical = canonical_by c.args.checked.now in
+    let canonical = canonical_by c.args.sound.now in
     let same : borrowed_meaning c.canonical.result ≡ canonical = ap meaning c.canonical.ensures in
     ap (λ (k : Canonical). ends_run k.class (drop c.in_ok-end.end (placed c.args.list.now))) (sym same) ∙ c.in_ok-end.ensures.ended
 
 pub returns-clause-onward : goal.returns-clause-onward
 returns-clause-onward c =
-    let canonical = canonical_by c.args.checked.now in
+    let canonical = canonical_by c.args.sound.now in
     let same : borrowed_meaning c.canonical.result ≡ canonical = ap meaning c.canonical.ensures in
     run_some canonical.class c.args.place c.in_ok-end.end c.args.list.now c.requires.inside c.requires.mark c.in_ok-end.ensures.begins
     (ap (λ (k : Canonical). ends_run k.class (drop c.in_ok-end.end (placed c.args.list.now))) (sym same) ∙ c.in_ok-end.ensures.ended)

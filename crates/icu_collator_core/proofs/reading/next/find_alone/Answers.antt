@@ -9,5 +9,5 @@ returns c =
     record {
       ordinary = sym c.special_primary.ensures ∙ not_some c.special_primary.result (sym c.is_some.ensures ∙ c.if-is_some.false);
       undotted = ne_eqb c.args.c 0x307 c.if-c-eq775.false;
-      alone = λ numeric. c.in_ok-element.ensures (weights_by numeric c.args.checked.now) (c.checked_word.ensures numeric);
+      alone = λ numeric. c.in_ok-element.ensures (weights_by numeric c.args.sound.now) (c.checked_word.ensures numeric);
     }

@@ -18,7 +18,7 @@ use Rattle.icu_collator_core.proofs.reading.next.read_character.Goals as goal
 
 pub returns-in_ok-push-in-Some-clause-read : goal.returns-in_ok-push-in-Some-clause-read
 returns-in_ok-push-in-Some-clause-read c =
-    let source = c.args.checked.now in
+    let source = c.args.sound.now in
     let canonical = canonical_by source in
     let weights = weights_by c.args.numeric source in
     let old = c.args.list.now.items in

@@ -15,7 +15,7 @@ use Rattle.icu_collator_core.proofs.reading.next.read_ordinary.Goals as goal
 pub read_number-requires-clause-digit : goal.read_number-requires-clause-digit
 read_number-requires-clause-digit c =
     let list = c.args.list.now.items in
-    let weights = weights_by (Some c.in-Some.lead) c.args.checked.now in
+    let weights = weights_by (Some c.in-Some.lead) c.args.sound.now in
     ap (λ (x : ℕ). is_some (weights.digit x))
     (ap (λ l. slice_index l c.args.place) c.deref.ensures ∙ first_left_is list c.args.place c.args.c c.requires.inside c.requires.here)
     ∙ ap (λ o. is_some o) (c.checked_word-entry.ensures (Some c.in-Some.lead)).digit
@@ -26,7 +26,7 @@ read_uncounted-requires-clause-said c = c.checked_word-entry.ensures c.args.nume
 
 pub returns-in_ok-next-in-Some-clause-read : goal.returns-in_ok-next-in-Some-clause-read
 returns-in_ok-next-in-Some-clause-read c =
-    let source = c.args.checked.now in
+    let source = c.args.sound.now in
     let canonical = canonical_by source in
     let lead = c.in-Some.lead in
     let weights = weights_by (Some lead) source in

@@ -15,7 +15,7 @@ use Rattle.icu_collator_core.proofs.reading.next.read_uncounted.Goals as goal
 
 pub returns-then-is_dropped-clause-read : goal.returns-then-is_dropped-clause-read
 returns-then-is_dropped-clause-read c =
-    let source = c.args.checked.now in
+    let source = c.args.sound.now in
     let canonical = canonical_by source in
     let weights = weights_by c.args.numeric source in
     let old = c.args.list.now.items in
@@ -36,7 +36,7 @@ returns-then-is_dropped-clause-read c =
 
 pub returns-clause-read : goal.returns-clause-read
 returns-clause-read c =
-    let source = c.args.checked.now in
+    let source = c.args.sound.now in
     let canonical = canonical_by source in
     let weights = weights_by c.args.numeric source in
     let old = c.args.list.now.items in

@@ -1,7 +1,0 @@
-use Rattle.std.proofs.Common.{ℕ, Option, ◌<◌, get_or}
-use Rattle.icu_collator_core.specs.AlikeLists.{IsToldAt}
-use Rattle.icu_collator_core.specs.ReadSources.{weights_by}
-use Rattle.icu_collator_core.proofs.checked.CheckedTables.is_told_alone.Given as goal
-
-abbrev pub invariant-loop-place : goal.invariant-loop-place
-invariant-loop-place l = (numeric : Option ℕ) (k : ℕ) → k < l.place → IsToldAt (weights_by numeric l.self) l.list k (get_or l.list k 0)

@@ -1,9 +1,0 @@
-use Rattle.std.proofs.Common.{◌≡◌, length}
-use Rattle.icu_collator_core.specs.FlatNotes.{AreFlatNotes}
-use Rattle.icu_collator_core.proofs.flat.notes.flat_notes.Given as goal
-
-abbrev pub invariant-loop-code : goal.invariant-loop-code
-invariant-loop-code l = record {
-  count : length l.notes.items ≡ l.code;
-  notes : AreFlatNotes l.checked l.notes.items;
-}

@@ -1,8 +1,0 @@
-use Rattle.std.proofs.Common.{List, get_or, ap, ◌∙◌, arith}
-use Rattle.icu_collator_core.specs.declared.flat.notes.FlatNote.{FlatNote}
-use Rattle.icu_collator_core.specs.declared.flat.notes.FlatNote.TheVariants.{Other}
-use Rattle.icu_collator_core.proofs.flat.pages.NotePage.get.Goals as goal
-
-pub returns-in-Some : goal.returns-in-Some
-returns-in-Some c =
-    c.in-Some.ensures.lookup.4 (omega arith) Other ∙ ap (λ (notes : List FlatNote). get_or notes c.args.place Other) (c.deref.ensures.value ∙ c.self.view_is)

@@ -1,6 +1,0 @@
-use Rattle.std.proofs.Common.{All}
-use Rattle.icu_collator_core.specs.Pairs.{IsPairNote}
-use Rattle.icu_collator_core.proofs.flat.pairs.push_joined.Given as goal
-
-abbrev pub invariant-loop-code : goal.invariant-loop-code
-invariant-loop-code l = All (IsPairNote l.checked) l.pairs.items

@@ -1,0 +1,7 @@
+use Rattle.std.proofs.Common.{ℕ, Option, ◌<◌, get_or}
+use Rattle.icu_collator_core.specs.AlikeLists.{IsToldAt}
+use Rattle.icu_collator_core.specs.ReadSources.{weights_by}
+use Rattle.icu_collator_core.proofs.reading.prefixes.is_told_alone.Given as goal
+
+abbrev pub invariant-loop-place : goal.invariant-loop-place
+invariant-loop-place l = (numeric : Option ℕ) (k : ℕ) → k < l.place → IsToldAt (weights_by numeric l.sound) l.list k (get_or l.list k 0)
