@@ -3,6 +3,7 @@
 mod common;
 mod encoded;
 mod flat;
+mod flat_texts;
 mod fronts;
 mod iterators;
 mod levels;

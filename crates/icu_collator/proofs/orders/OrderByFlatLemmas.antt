@@ -184,36 +184,43 @@ module _ (source : CollationSource) where
       },
     )
 
-    -- both go on with the same character
-    pub pass_alike : (left next_left : I) (right next_right : J) (c class p trail : ℕ) → ReadAlike left right class class
-        → left_steps left (Some c) next_left → right_steps right (Some c) next_right → StepsTo source numeric c class p trail → ReadAlike next_left next_right trail trail
-    pass_alike left next_left right next_right c class p trail h step other steps_to =
-        let one = steps_to h.0 in
-        let two = steps_to h.1 in (
+    -- both go on with characters of one primary
+    pub pass_both : (left next_left : I) (right next_right : J) (c d left_class right_class p left_trail right_trail : ℕ) → ReadAlike left right left_class right_class
+        → left_steps left (Some c) next_left → right_steps right (Some d) next_right → StepsTo source numeric c left_class p left_trail → StepsTo source numeric d right_class p right_trail
+        → ReadAlike next_left next_right left_trail right_trail
+    pass_both left next_left right next_right c d left_class right_class p left_trail right_trail h step other first second =
+        let one = first h.0 in
+        let two = second h.1 in (
           one.0,
           two.0,
           record {
-            left_read = read_on source numeric left_steps a left next_left class c p trail h.0 one.0 h.2.left_read step one.1;
-            right_read = read_on source numeric right_steps b right next_right class c p trail h.1 two.0 h.2.right_read other two.1;
+            left_read = read_on source numeric left_steps a left next_left left_class c p left_trail h.0 one.0 h.2.left_read step one.1;
+            right_read = read_on source numeric right_steps b right next_right right_class d p right_trail h.1 two.0 h.2.right_read other two.1;
             same =
                 elim (cases_Bool (does_count end p)) [
                   | inl counts ↦
                       let some = no_zero p (counts_some end p counts) in
-                      ap (map (reordered_by source)) (counted_ends end h.0 one.0 p (primaries_on source numeric left_steps a class c p trail h.0 one.0 one.1 ∙ ap (λ (ps : List ℕ). primaries_in h.0 ++ ps) some) counts)
+                      ap (map (reordered_by source)) (counted_ends end h.0 one.0 p (primaries_on source numeric left_steps a left_class c p left_trail h.0 one.0 one.1 ∙ ap (λ (ps : List ℕ). primaries_in h.0 ++ ps) some) counts)
                       ∙ map-append (reordered_by source) (counted_primaries end h.0) (p ∷ [])
                       ∙ ap (λ (ps : List ℕ). ps ++ reordered_by source p ∷ []) h.2.same
                       ∙ sym (map-append (reordered_by source) (counted_primaries end h.1) (p ∷ []))
-                      ∙ sym (ap (map (reordered_by source)) (counted_ends end h.1 two.0 p (primaries_on source numeric right_steps b class c p trail h.1 two.0 two.1 ∙ ap (λ (ps : List ℕ). primaries_in h.1 ++ ps) some) counts))
+                      ∙ sym (ap (map (reordered_by source)) (counted_ends end h.1 two.0 p (primaries_on source numeric right_steps b right_class d p right_trail h.1 two.0 two.1 ∙ ap (λ (ps : List ℕ). primaries_in h.1 ++ ps) some) counts))
                   | inr none ↦
-                      ap (map (reordered_by source)) (counted_without end h.0 one.0 p (primaries_on source numeric left_steps a class c p trail h.0 one.0 one.1) none)
+                      ap (map (reordered_by source)) (counted_without end h.0 one.0 p (primaries_on source numeric left_steps a left_class c p left_trail h.0 one.0 one.1) none)
                       ∙ h.2.same
-                      ∙ sym (ap (map (reordered_by source)) (counted_without end h.1 two.0 p (primaries_on source numeric right_steps b class c p trail h.1 two.0 two.1) none))
+                      ∙ sym (ap (map (reordered_by source)) (counted_without end h.1 two.0 p (primaries_on source numeric right_steps b right_class d p right_trail h.1 two.0 two.1) none))
                 ];
           },
         )
       where
         no_zero : (q : ℕ) → (q == 0) ≡ false → primary_if_any q ≡ q ∷ []
         no_zero q e = rw e refl
+
+    -- both go on with the same character
+    pub pass_alike : (left next_left : I) (right next_right : J) (c class p trail : ℕ) → ReadAlike left right class class
+        → left_steps left (Some c) next_left → right_steps right (Some c) next_right → StepsTo source numeric c class p trail → ReadAlike next_left next_right trail trail
+    pass_alike left next_left right next_right c class p trail h step other steps_to =
+        pass_both left next_left right next_right c c class class p trail trail h step other steps_to steps_to
 
     module _ (old_lefts old_rights : List ℕ) (same : moved_primaries source end old_lefts ≡ moved_primaries source end old_rights) (left : I) (right : J) (left_class right_class : ℕ) where
       abbrev pub LeftNext : FlatStep → Type 0
@@ -290,6 +297,20 @@ module _ (source : CollationSource) where
       met first second BothEnd m l r one two s ok also = both_ended first second m l r
       met first second (Parted o) m l r one two s ok also = meeting_decides first second o m l r one two s ok also
       met first second Stopped m l r one two s ok also = tt
+
+    -- both go on with characters whose primaries count
+    pub steps_met : (left next_left : I) (right next_right : J) (c d left_class right_class p q left_trail right_trail : ℕ) (meeting : Meeting) → IsDecomposing (canonical_by source)
+        → ReadAlike left right left_class right_class → left_steps left (Some c) next_left → right_steps right (Some d) next_right
+        → StepsTo source numeric c left_class p left_trail → StepsTo source numeric d right_class q right_trail → does_count end p ≡ true → does_count end q ≡ true
+        → IsMeeting source (Primary p) (Primary q) meeting
+        → ((lefts rights : List ℕ) → IsNextPrimary source numeric left_steps a lefts (Primary p) next_left left_trail
+        → IsNextPrimary source numeric right_steps b rights (Primary q) next_right right_trail → AreSettled source numeric a b lefts rights (Primary p) (Primary q) meeting)
+        → All IsScalar a → All IsScalar b → IsMet source end numeric left_steps right_steps a b meeting next_left next_right left_trail right_trail
+    steps_met left next_left right next_right c d left_class right_class p q left_trail right_trail meeting decomposing h step other first second counts also says settled ok scalars =
+        let one = next_primary source numeric left_steps a left next_left left_class c p left_trail h.0 h.0 decomposing h.2.left_read refl step first (counts_some end p counts) in
+        let two = next_primary source numeric right_steps b right next_right right_class d q right_trail h.1 h.1 decomposing h.2.right_read refl other second (counts_some end q also) in
+        met h.0 h.1 h.2.same next_left next_right left_trail right_trail (Primary p) (Primary q) meeting says one two
+        (primary_counts end p counts) (primary_counts end q also) (settled h.0 h.1 one two) ok scalars
 
     -- what is left of both counts only where they go on
     pub met_left : (meeting : Meeting) (left next_left : I) (right next_right : J) (left_class right_class : ℕ) → (meeting ≡ Alike → next_left ≡ left) → (meeting ≡ Alike → next_right ≡ right)

@@ -7,7 +7,7 @@ ghost use Rattle.icu_collator.specs.Fronts.{PartAt};
 ghost use Rattle.icu_collator.specs.Order.{collation_order};
 ghost use Rattle.icu_collator.specs.ReadingPlaces.{IsCommonPlace};
 
-use super::flat::compare_flat;
+use super::flat_texts::compare_flat;
 use super::fronts::difference_and_boundary;
 use super::iterators::compare_characters;
 use super::stretched::compare_stretched;

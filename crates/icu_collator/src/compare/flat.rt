@@ -1,33 +1,20 @@
-//! The comparison of texts that are read flat: by their primaries while they are read, then by the other levels.
+//! The comparison of texts that are read flat by their primaries, while they are read.
 
 ghost use Rattle.std.specs.Char.{IsScalar};
 ghost use Rattle.std.specs.Iterator.{IsFinite, IsNearerEnd};
-ghost use Rattle.std.specs.Prelude.{◌≡◌, ◌≤◌, ℕ, All, List, IfOk, IfSome, drop, false, length, true};
+ghost use Rattle.std.specs.Prelude.{◌≡◌, ℕ, All, List, IfSome, Some, true};
 ghost use Rattle.icu_normalizer_core.specs.Iter.{Spells};
-ghost use Rattle.icu_collator_core.specs.FlatSteps.{IsNextPrimary, IsReadUpTo, IsSettled};
+ghost use Rattle.icu_collator_core.specs.FlatSteps.{IsNextPrimary, IsReadUpTo, IsSettled, StepsTo};
 ghost use Rattle.icu_collator_core.specs.declared.flat.steps.FlatStep.TheVariants.{Primary};
-ghost use Rattle.icu_collator.specs.Collators.{source_collation};
-ghost use Rattle.icu_collator_types.specs.Options.{is_at_least, is_shifted};
-ghost use Rattle.icu_collator_types.specs.declared.options.Strength.TheVariants.{Identical};
-ghost use Rattle.icu_collator.specs.FlatOrders.{AreAlikeSoFar, AreSettled, HaveSamePrimaries, IsByPrimaries, IsMeeting, IsMet, IsNextCounted, does_count};
-ghost use Rattle.icu_collator.specs.Order.{collation_order};
+ghost use Rattle.icu_collator.specs.FlatOrders.{AreAlikeSoFar, AreSettled, IsByPrimaries, IsMeeting, IsMet, IsNextCounted, does_count};
 ghost use Rattle.icu_collator.specs.declared.compare.flat.Meeting.TheVariants.{Alike};
 
 use super::common::{counts, order_by_low, pass_common, pass_low};
-use super::weights::compare_behind_primaries;
-use crate::common_front::behind;
-use crate::encodings::{Characters, PeekLow};
-use crate::levels::counted_elements::variable_end;
+use crate::encodings::PeekLow;
 use crate::levels::weights::reordered;
-use crate::read_texts::{ReadText, is_unshifted, numeric_lead};
 use icu_collator_core::checked::CheckedTables;
-use icu_collator_core::flat::{FlatElements, FlatStep};
-use icu_collator_types::options::{ResolvedCollatorOptions, Strength};
-use std::alloc::{AllocError, Global};
+use icu_collator_core::flat::FlatStep;
 use std::cmp::Ordering;
-
-/// How many elements of each text are kept for the levels behind the primaries.
-const KEPT: usize = 64;
 
 /// What the next primaries of two texts say.
 #[derive(Clone, Copy)]
@@ -247,6 +234,114 @@ fn meet_next<I: Iterator<Item = char> + Drop, J: Iterator<Item = char> + Drop>(
     (meeting, left_rest, right_rest, left_last, right_last)
 }
 
+/// The step of a character behind one of a class, where that of another is known: the same character behind the same class is looked
+/// up once.
+#[inline(always)]
+fn step_of_second(
+    checked: &CheckedTables<'_>,
+    numeric: Option<u8>,
+    first: char,
+    before: u32,
+    step: (u32, u32),
+    second: char,
+    class: u32,
+) -> Option<(u32, u32)>
+    requires { StepsTo checked.now numeric first before step.0 step.1 }
+    ensures { IfSome result (λ found. StepsTo checked.now numeric second class found.0 found.1) }
+{
+    if first == second && before == class {
+        return Some(step);
+    }
+    checked.flat_primary(numeric, second, class)
+}
+
+/// What the next characters of two texts say, that were read up to primaries that are alike, each behind a character of a class, where
+/// one look at each tells; with the texts behind them, and their classes. `None` tells nothing. No memory is taken.
+#[inline(always)]
+fn meet_characters<I: PeekLow + Drop, J: PeekLow + Drop>(
+    checked: &CheckedTables<'_>,
+    end: u32,
+    numeric: Option<u8>,
+    left: &I,
+    right: &J,
+    left_class: u32,
+    right_class: u32,
+) -> (Option<Meeting>, I, J, u32, u32)
+    requires left { I.can_next left.now }
+    requires left_ends { IsFinite (I.remaining left.now) }
+    requires right { J.can_next right.now }
+    requires right_ends { IsFinite (J.remaining right.now) }
+    ensures next { IfSome result.0 (λ meeting. (a b : List ℕ) → All IsScalar a → All IsScalar b
+        → AreAlikeSoFar checked.now end numeric I.next_gives J.next_gives a b left.now right.now left_class right_class
+        → IsMet checked.now end numeric I.next_gives J.next_gives a b meeting result.1 result.2 result.3 result.4) }
+    ensures left_nearer { result.0 ≡ Some Alike → IsNearerEnd I.can_next I.remaining left.now result.1 }
+    ensures right_nearer { result.0 ≡ Some Alike → IsNearerEnd J.can_next J.remaining right.now result.2 }
+{
+    checked.canonical().keep_promise();
+    let mut left = left.again();
+    let mut right = right.again();
+    let Some(c) = left.next() else {
+        return (None, left, right, left_class, right_class);
+    };
+    let Some(d) = right.next() else {
+        return (None, left, right, left_class, right_class);
+    };
+    let Some(first) = checked.flat_primary(numeric, c, left_class) else {
+        return (Some(Meeting::Stopped), left, right, left_class, right_class);
+    };
+    let Some(second) = step_of_second(checked, numeric, c, left_class, first, d, right_class) else {
+        return (Some(Meeting::Stopped), left, right, left_class, right_class);
+    };
+    if first.0 == second.0 {
+        return (Some(Meeting::Alike), left, right, first.1, second.1);
+    }
+    if !counts(first.0, end) || !counts(second.0, end) {
+        return (None, left, right, left_class, right_class);
+    }
+    let one = FlatStep::Primary(first.0);
+    let two = FlatStep::Primary(second.0);
+    let (meeting, left, right) = meet_settled(
+        checked, numeric, one, two, left, right, first.1, second.1,
+    );
+    (Some(meeting), left, right, first.1, second.1)
+}
+
+/// The same, by all that has to be read up to the next primaries that count, where those characters don't tell.
+#[inline(always)]
+fn meet_either<I: PeekLow + Drop, J: PeekLow + Drop>(
+    checked: &CheckedTables<'_>,
+    end: u32,
+    numeric: Option<u8>,
+    left: I,
+    right: J,
+    left_class: u32,
+    right_class: u32,
+) -> (Meeting, I, J, u32, u32)
+    requires left { I.can_next left }
+    requires left_ends { IsFinite (I.remaining left) }
+    requires right { J.can_next right }
+    requires right_ends { IsFinite (J.remaining right) }
+    ensures next { (a b : List ℕ) → All IsScalar a → All IsScalar b
+        → AreAlikeSoFar checked.now end numeric I.next_gives J.next_gives a b left right left_class right_class
+        → IsMet checked.now end numeric I.next_gives J.next_gives a b result.0 result.1 result.2 result.3 result.4 }
+    ensures left_nearer { result.0 ≡ Alike → IsNearerEnd I.can_next I.remaining left result.1 }
+    ensures right_nearer { result.0 ≡ Alike → IsNearerEnd J.can_next J.remaining right result.2 }
+{
+    let (told, left_rest, right_rest, left_last, right_last) = meet_characters(
+        checked,
+        end,
+        numeric,
+        &left,
+        &right,
+        left_class,
+        right_class,
+    );
+    match told {
+        Some(meeting) => (meeting, left_rest, right_rest, left_last, right_last),
+        None => meet_next(checked, end, numeric, left, right, left_class, right_class),
+    }
+}
+
 /// Reads two texts, that were read up to primaries that are alike, each behind a character of a class, on side by side as long as their
 /// primaries that count are alike. No memory is taken.
 #[inline(always)]
@@ -299,7 +394,7 @@ fn by_further_primaries<I: PeekLow + Drop, J: PeekLow + Drop>(
 
 /// Reads two texts side by side as long as their primaries that count are alike. No memory is taken.
 #[inline(always)]
-fn by_primaries<I: PeekLow + Drop, J: PeekLow + Drop>(
+pub(super) fn by_primaries<I: PeekLow + Drop, J: PeekLow + Drop>(
     checked: &CheckedTables<'_>,
     end: u32,
     numeric: Option<u8>,
@@ -320,126 +415,71 @@ fn by_primaries<I: PeekLow + Drop, J: PeekLow + Drop>(
     by_further_primaries(checked, end, numeric, left, right, class, class)
 }
 
-/// The order of what stands in two texts with the same primaries behind so many characters, by the levels behind these, if both
-/// are read flat and have few elements: `None` for others. Fails only when out of memory.
-#[inline(never)]
-fn compare_kept<T: Characters, U: Characters>(
-    alloc: Global,
-    checked: &CheckedTables<'_>,
-    options: &ResolvedCollatorOptions,
-    left: T,
-    right: U,
-    place: usize,
-) -> Result<Option<Ordering>, AllocError>
-    requires left_reaches { place ≤ length (T.characters left) }
-    requires right_reaches { place ≤ length (U.characters right) }
-    requires unshifted { is_shifted options.now.alternate_handling ≡ false }
-    requires inexact { is_at_least options.now.strength Identical ≡ false }
-    requires same { HaveSamePrimaries (source_collation checked.now) options.now (drop place (T.characters left)) (drop place (U.characters right)) }
-    ensures { IfOk result (λ answer. IfSome answer (λ order.
-        order ≡ collation_order (source_collation checked.now) options.now (drop place (T.characters left)) (drop place (U.characters right)))) }
-{
-    let numeric = numeric_lead(checked, options);
-    let mut lefts = FlatElements::<KEPT>::new();
-    if !checked.read_flat(numeric, behind(left.chars(), place), &mut lefts) {
-        return Ok(None);
-    }
-    let mut rights = FlatElements::<KEPT>::new();
-    if !checked.read_flat(numeric, behind(right.chars(), place), &mut rights) {
-        return Ok(None);
-    }
-    let left = ReadText {
-        elements: lefts.as_slice(),
-        variable_end: 0,
-        characters: &[],
-    };
-    let right = ReadText {
-        elements: rights.as_slice(),
-        variable_end: 0,
-        characters: &[],
-    };
-    let order = compare_behind_primaries(alloc, checked, options, left, right)?;
-    Ok(Some(order))
-}
-
-/// The same at each strength: `None` at `Identical`. Fails only when out of memory.
-#[inline(never)]
-fn compare_same<T: Characters, U: Characters>(
-    alloc: Global,
-    checked: &CheckedTables<'_>,
-    options: &ResolvedCollatorOptions,
-    left: T,
-    right: U,
-    place: usize,
-) -> Result<Option<Ordering>, AllocError>
-    requires left_reaches { place ≤ length (T.characters left) }
-    requires right_reaches { place ≤ length (U.characters right) }
-    requires unshifted { is_shifted options.now.alternate_handling ≡ false }
-    requires same { HaveSamePrimaries (source_collation checked.now) options.now (drop place (T.characters left)) (drop place (U.characters right)) }
-    ensures { IfOk result (λ answer. IfSome answer (λ order.
-        order ≡ collation_order (source_collation checked.now) options.now (drop place (T.characters left)) (drop place (U.characters right)))) }
-{
-    if options.strength.is_at_least(Strength::Identical) {
-        return Ok(None);
-    }
-    let answer = compare_kept(alloc, checked, options, left, right, place)?;
-    Ok(answer)
-}
-
-/// The order of what stands in two texts behind so many characters, if both are read flat up to primaries that count and differ, where
-/// variable elements are shifted: `None` for others. No memory is taken.
-#[inline(never)]
-fn compare_shifted<T: Characters, U: Characters>(
-    checked: &CheckedTables<'_>,
-    options: &ResolvedCollatorOptions,
-    left: T,
-    right: U,
-    place: usize,
-) -> Option<Ordering>
-    requires left_reaches { place ≤ length (T.characters left) }
-    requires right_reaches { place ≤ length (U.characters right) }
-    ensures { IfSome result (λ order.
-        order ≡ collation_order (source_collation checked.now) options.now (drop place (T.characters left)) (drop place (U.characters right))) }
-{
-    let numeric = numeric_lead(checked, options);
-    let end = variable_end(checked, options);
-    let lefts = behind(left.chars(), place);
-    let rights = behind(right.chars(), place);
-    match by_primaries(checked, end, numeric, lefts, rights) {
-        ByPrimaries::Decided(order) => Some(order),
-        ByPrimaries::NotFlat => None,
-        ByPrimaries::Same => None,
-    }
-}
-
-/// The order of what stands in two texts behind so many characters, if both are read flat as far as it takes: `None` for
-/// others. Fails only when out of memory.
+/// Reads two texts, that were read up to primaries that are alike, each behind a character of a class, on character by character as
+/// long as their primaries that count are alike. No memory is taken.
 #[inline(always)]
-pub(super) fn compare_flat<T: Characters, U: Characters>(
-    alloc: Global,
+fn by_further_characters<I: PeekLow + Drop, J: PeekLow + Drop>(
     checked: &CheckedTables<'_>,
-    options: &ResolvedCollatorOptions,
-    left: T,
-    right: U,
-    place: usize,
-) -> Result<Option<Ordering>, AllocError>
-    requires left_reaches { place ≤ length (T.characters left) }
-    requires right_reaches { place ≤ length (U.characters right) }
-    ensures { IfOk result (λ answer. IfSome answer (λ order.
-        order ≡ collation_order (source_collation checked.now) options.now (drop place (T.characters left)) (drop place (U.characters right)))) }
+    end: u32,
+    numeric: Option<u8>,
+    left: I,
+    right: J,
+    class: u32,
+) -> ByPrimaries
+    requires left { I.can_next left }
+    requires left_ends { IsFinite (I.remaining left) }
+    requires right { J.can_next right }
+    requires right_ends { IsFinite (J.remaining right) }
+    ensures { (a b : List ℕ) → All IsScalar a → All IsScalar b
+        → AreAlikeSoFar checked.now end numeric I.next_gives J.next_gives a b left right class class
+        → IsByPrimaries checked.now end numeric a b result }
 {
-    if !is_unshifted(options) {
-        return Ok(compare_shifted(checked, options, left, right, place));
-    }
-    let numeric = numeric_lead(checked, options);
-    let lefts = behind(left.chars(), place);
-    let rights = behind(right.chars(), place);
-    match by_primaries(checked, 0, numeric, lefts, rights) {
-        ByPrimaries::Decided(order) => Ok(Some(order)),
-        ByPrimaries::NotFlat => Ok(None),
-        ByPrimaries::Same => {
-            let answer = compare_same(alloc, checked, options, left, right, place)?;
-            Ok(answer)
+    let mut left = left;
+    let mut right = right;
+    let mut left_class = class;
+    let mut right_class = class;
+    'primaries: loop {
+        let (meeting, left_rest, right_rest, left_last, right_last) = meet_either(
+            checked,
+            end,
+            numeric,
+            left,
+            right,
+            left_class,
+            right_class,
+        );
+        match meeting {
+            Meeting::Alike => {}
+            Meeting::BothEnd => return ByPrimaries::Same,
+            Meeting::Parted(order) => return ByPrimaries::Decided(order),
+            Meeting::Stopped => return ByPrimaries::NotFlat,
         }
+        left = left_rest;
+        right = right_rest;
+        left_class = left_last;
+        right_class = right_last;
     }
+}
+
+/// The same as `by_primaries`, for texts in which primaries that don't count are rare.
+#[inline(always)]
+pub(super) fn by_characters<I: PeekLow + Drop, J: PeekLow + Drop>(
+    checked: &CheckedTables<'_>,
+    end: u32,
+    numeric: Option<u8>,
+    left: I,
+    right: J,
+) -> ByPrimaries
+    requires left { I.can_next left }
+    requires left_ends { IsFinite (I.remaining left) }
+    requires right { J.can_next right }
+    requires right_ends { IsFinite (J.remaining right) }
+    ensures { (a b : List ℕ) → All IsScalar a → All IsScalar b → Spells I.next_gives left a → Spells J.next_gives right b
+        → IsByPrimaries checked.now end numeric a b result }
+{
+    let (left, right, class) = pass_low(checked, left, right, 0);
+    if let Some(order) = order_by_low(checked, end, &left, &right) {
+        return ByPrimaries::Decided(order);
+    }
+    by_further_characters(checked, end, numeric, left, right, class)
 }

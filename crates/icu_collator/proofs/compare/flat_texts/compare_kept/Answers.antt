@@ -1,7 +1,7 @@
 use Rattle.std.proofs.Common.{◌≡◌, drop, true, refl, ap, rules, ◌∙◌}
 use Rattle.icu_collator_core.specs.ElementLists.{unpacked}
 use Rattle.icu_collator.proofs.orders.OrderByFlatLemmas.{same_primaries}
-use Rattle.icu_collator.proofs.compare.flat.compare_kept.Goals as goal
+use Rattle.icu_collator.proofs.compare.flat_texts.compare_kept.Goals as goal
 
 pub returns : goal.returns
 returns g c =
