@@ -127,8 +127,9 @@ def random_reload(source, records):
 
 
 def removals_in_bulk(source, names):
-    """Many names that are added, of which most are removed, and some more added then."""
-    many = [*{source.choice(names) + source.choice(names) + b'%d' % place for place in range(source.choice([40, 150, 400]))}]
+    """Many names that are added, of which most are removed, and some more added then. The most are more than stand in one list
+    of the index, so that lists are parted, joined and let go of."""
+    many = [*{source.choice(names) + source.choice(names) + b'%d' % place for place in range(source.choice([40, 150, 400, 1300]))}]
     gone = source.sample(many, len(many) * source.choice([8, 9, 10]) // 10)
     if source.random() < 0.5:
         gone.sort()
