@@ -3,3 +3,4 @@ pub mod KnownBytesLemmas
 pub mod SendingLemmas
 pub mod TellingLemmas
 pub mod ContentLemmas
+pub mod ServedLemmas

@@ -1,5 +1,5 @@
 -- what the program does, but for reading its words and FILE
-use Rattle.std.specs.Prelude.{◌≡◌, ℕ, ◌+◌, ◌⊎◌, true, Bool, Option, Result, Ok, Err, OnOk, List, [], ◌++◌, codes, take, IfOk, IfSome, MatchOption, MatchResult}
+use Rattle.std.specs.Prelude.{◌≡◌, ℕ, ◌+◌, ◌⊎◌, true, Bool, Option, Some, Result, Ok, Err, OnOk, List, [], ◌++◌, codes, take, IfOk, IfSome, MatchOption, MatchResult}
 use denote.Bor.{Bor}
 use Rattle.std.specs.Io.KnownBytes.{Appends, Keeps}
 use Rattle.collate_records.specs.Files.{FileRecords, IsReadWithin}
@@ -70,6 +70,13 @@ pub record Runs (start : Catalogue) (status : ℕ) (reader_old reader_new writer
   pub ran : Ran start result reader_old reader_new writer_old writer_new
   pub status_is : status ≡ run_status result
   pub tells : Tells errors_old errors_new (run_text result)
+
+-- What a run is begun with: the words that were given, and the records of FILE, read within limits.
+pub record OpensFile (limits : Limits) (choice : Option (Bor Choice)) (file : Result (Bor (List ℕ)) FileFault) (given : Bor Choice) (records : FileRecords) : Type 0 where
+  pub bytes : Bor (List ℕ)
+  pub choice_is : choice ≡ Some given
+  pub file_is : file ≡ Ok bytes
+  pub read_is : IsReadWithin limits bytes.now (Ok records)
 
 module _ (limits : Limits) (status : ℕ) (reader_old reader_new writer_old writer_new errors_old errors_new : Option (List ℕ)) where
   -- what is served of a file of records, read within limits: a run over them, or their refusal

@@ -1,6 +1,6 @@
 //! A run whose lines are taken from the reader's buffer, and whose replies are sent together where no whole line is ready.
 
-ghost use Rattle.std.specs.Prelude.{◌≡◌, ◌==◌, ◌++◌, ◌<◌, if◌then◌else◌, ◌≤◌, ◌↔◌, ◌||◌, ℕ, [], List, length, take, false, true, Err, IfErr, IfOk, IfSome, OnOk, is_err, position};
+ghost use Rattle.std.specs.Prelude.{◌≡◌, ◌≢◌, ◌==◌, ◌++◌, ◌<◌, if◌then◌else◌, ◌≤◌, ◌↔◌, ◌||◌, ℕ, [], List, length, take, false, true, Err, IfErr, IfOk, IfSome, OnOk, is_err, position};
 ghost use Rattle.std.specs.Io.KnownBytes.{Keeps};
 ghost use Rattle.collate_index.specs.Catalogue.{opened};
 ghost use Rattle.collate_run.specs.Buffered.{AnswersLines, Gathers, IsReadyLine, TakesReady, is_write_fault};
@@ -10,11 +10,11 @@ ghost use Rattle.collate_run.specs.ReplyText.{reply_text};
 ghost use Rattle.collate_run.specs.Runs.{Ran, input_limit};
 ghost use Rattle.collate_run.specs.Sending.{Sends};
 ghost use Rattle.collate_run.specs.Served.{ServesWithin};
-ghost use Rattle.collate_run.specs.Watched.{watched_inner, watched_failed};
+ghost use Rattle.collate_run.specs.Watched.{watched_inner, watched_failed, watched_flushed};
 
 use crate::replies::{Reply, answer, records_behind};
 use crate::run::{INPUT_LIMIT, LINE_LIMIT, RunFault, next_request, write_reply, write_whole};
-use crate::serve::{FileFault, tell, tell_refusal, tell_run_fault};
+use crate::serve::{FileFault, open_file, status_of};
 use crate::setup::Setup;
 use crate::watched::Watched;
 use collate_choice::Choice;
@@ -49,6 +49,7 @@ fn send<W: Write>(writer: &mut Watched<W>, waiting: &mut Vec<u8>) -> Result<(), 
 fn flush<W: Write>(writer: &mut Watched<W>) -> Result<(), RunFault>
     ensures bytes { Keeps (W.contents (watched_inner writer.old)) (W.contents (watched_inner writer.new)) }
     ensures failed { watched_failed writer.new ≡ watched_failed writer.old || is_err result }
+    ensures flushed { OnOk result (watched_flushed writer.new ≡ true) }
     ensures fault { IfErr result (λ fault. fault ≡ RunFault.Write) }
 {
     match writer.flush() {
@@ -63,6 +64,7 @@ fn show<W: Write>(writer: &mut Watched<W>, waiting: &mut Vec<u8>) -> Result<(), 
         (W.contents (watched_inner writer.old)) (W.contents (watched_inner writer.new)) waiting.old.items }
     ensures none { OnOk result (waiting.new.items ≡ []) }
     ensures failed { watched_failed writer.new ≡ watched_failed writer.old || is_err result }
+    ensures flushed { OnOk result (watched_flushed writer.new ≡ true) }
     ensures fault { IfErr result (λ fault. fault ≡ RunFault.Write) }
 {
     match send(writer, waiting) {
@@ -76,6 +78,7 @@ fn show_reply<W: Write>(writer: &mut Watched<W>, reply: &Reply) -> Result<(), Ru
     ensures bytes { Sends result
         (W.contents (watched_inner writer.old)) (W.contents (watched_inner writer.new)) (reply_text reply.now) }
     ensures failed { watched_failed writer.new ≡ watched_failed writer.old || is_err result }
+    ensures flushed { OnOk result (watched_flushed writer.new ≡ true) }
     ensures fault { IfErr result (λ fault. fault ≡ RunFault.Write) }
 {
     match write_reply(writer, reply) {
@@ -228,6 +231,7 @@ fn answer_ready<R: BufRead, W: Write>(
     ensures none { OnOk result (waiting.new.items ≡ []) }
     ensures reader { watched_failed reader.new ≡ watched_failed reader.old || is_read_fault result }
     ensures writer { watched_failed writer.new ≡ watched_failed writer.old || is_write_fault result }
+    ensures flushed { result ≢ Err RunFault.Write → watched_flushed writer.old ≡ true → watched_flushed writer.new ≡ true }
 {
     let ready = match reader.inner.fill_buf() {
         Ok(ready) => ready,
@@ -276,6 +280,7 @@ fn answer_buffered<R: BufRead, W: Write>(
         (W.contents (watched_inner writer.old)) (W.contents (watched_inner writer.new)) }
     ensures read { (watched_failed reader.new ≡ true) ↔ (result ≡ Err RunFault.Read) }
     ensures write { (watched_failed writer.new ≡ true) ↔ (result ≡ Err RunFault.Write) }
+    ensures flushed { result ≢ Err RunFault.Write → watched_flushed writer.old ≡ true → watched_flushed writer.new ≡ true }
 {
     let mut count = 0;
     'requests: loop {
@@ -326,6 +331,9 @@ pub fn run_buffered<R: BufRead, W: Write>(
     // `Read` and `Write` are answered exactly if a call of the reader or writer failed.
     ensures read { (watched_failed reader.new ≡ true) ↔ (result ≡ Err RunFault.Read) }
     ensures write { (watched_failed writer.new ≡ true) ↔ (result ≡ Err RunFault.Write) }
+
+    // All that it wrote was flushed, but at `Write`: so it was before each call of the reader, since any of them may fail.
+    ensures flushed { result ≢ Err RunFault.Write → watched_flushed writer.old ≡ true → watched_flushed writer.new ≡ true }
 {
     run_buffered_with_seed(
         alloc,
@@ -356,6 +364,7 @@ pub fn run_buffered_with_seed<R: BufRead, W: Write>(
         (W.contents (watched_inner writer.old)) (W.contents (watched_inner writer.new)) }
     ensures read { (watched_failed reader.new ≡ true) ↔ (result ≡ Err RunFault.Read) }
     ensures write { (watched_failed writer.new ≡ true) ↔ (result ≡ Err RunFault.Write) }
+    ensures flushed { result ≢ Err RunFault.Write → watched_flushed writer.old ≡ true → watched_flushed writer.new ≡ true }
 {
     let Ok(mut index) = Index::with_seed(alloc, records, preferences, options, seed) else {
         return Err(RunFault::Memory);
@@ -385,30 +394,11 @@ pub fn serve_buffered<R: BufRead, W: Write, E: Write>(
         (E.contents errors.old) (E.contents errors.new)
         choice.entry file.entry }
 {
-    let Some(choice) = choice else {
-        tell(errors, &[b"usage: collate FILE [OPTION=VALUE]..\n"]);
-        return 2;
+    let (choice, records) = match open_file(alloc, setup.limits, choice, file, errors) {
+        Ok(opened) => opened,
+        Err(status) => return status,
     };
-    let bytes = match file {
-        Ok(bytes) => bytes,
-        Err(FileFault::Unreadable) => {
-            let path = choice.file.as_bytes();
-            tell(errors, &[b"collate: cannot read ", path, b"\n"]);
-            return 1;
-        }
-        Err(FileFault::Memory) => {
-            tell(errors, &[b"collate: memory\n"]);
-            return 1;
-        }
-    };
-    let records = match Records::read_within(alloc, bytes, setup.limits) {
-        Ok(records) => records,
-        Err(error) => {
-            tell_refusal(errors, error);
-            return 1;
-        }
-    };
-    match run_buffered_with_seed(
+    let ended = run_buffered_with_seed(
         alloc,
         records,
         &choice.prefs,
@@ -416,11 +406,6 @@ pub fn serve_buffered<R: BufRead, W: Write, E: Write>(
         setup.seed,
         reader,
         writer,
-    ) {
-        Ok(()) => 0,
-        Err(fault) => {
-            tell_run_fault(errors, fault);
-            1
-        }
-    }
+    );
+    status_of(errors, ended)
 }

@@ -8,7 +8,7 @@ ghost use Rattle.collate_run.specs.Watched.{watched_failed, watched_inner};
 use crate::buffered::run_buffered_with_seed;
 use crate::fused::Fused;
 use crate::program::{INPUT_ROOM, file_bytes, run_program_within, words};
-use crate::serve::{FileFault, tell, tell_run_fault};
+use crate::serve::{FileFault, status_of, tell};
 use crate::setup::Setup;
 use crate::watched::Watched;
 use collate_choice::Choice;
@@ -109,7 +109,7 @@ fn serve_joined<R: BufRead, W: Write, E: Write>(
             return 1;
         }
     };
-    match run_buffered_with_seed(
+    let ended = run_buffered_with_seed(
         alloc,
         records,
         &choice.prefs,
@@ -117,13 +117,8 @@ fn serve_joined<R: BufRead, W: Write, E: Write>(
         setup.seed,
         reader,
         writer,
-    ) {
-        Ok(()) => 0,
-        Err(fault) => {
-            tell_run_fault(errors, fault);
-            1
-        }
-    }
+    );
+    status_of(errors, ended)
 }
 
 /// Serves the words of the program, the bytes of a root and those of FILE, which is put over it, as `serve_buffered` serves

@@ -1,12 +1,12 @@
 //! All that the program does but reading its words and FILE.
 
-ghost use Rattle.std.specs.Prelude.{◌≡◌, false, flat_map};
+ghost use Rattle.std.specs.Prelude.{◌≡◌, ℕ, Option, List, false, flat_map, IfErr, IfOk, OnOk};
 ghost use Rattle.collate_run.specs.Sending.{Sends};
-ghost use Rattle.collate_run.specs.Served.{Serves, ServesWithin, Tells, records_line, run_line};
+ghost use Rattle.collate_run.specs.Served.{OpensFile, Serves, ServesWithin, Tells, records_line, run_line, run_status, run_text};
 ghost use Rattle.collate_run.specs.Watched.{watched_failed, watched_inner};
 
 use crate::run::{RunFault, run_with_seed};
-use crate::setup::Setup;
+use crate::setup::{Limits, Setup};
 use crate::watched::Watched;
 use collate_choice::Choice;
 use collate_records::records::Records;
@@ -60,7 +60,7 @@ pub(crate) fn tell<E: Write>(errors: &mut E, parts: &[&[u8]])
 }
 
 /// Tells why records were refused.
-pub(crate) fn tell_refusal<E: Write>(errors: &mut E, error: RecordsError)
+fn tell_refusal<E: Write>(errors: &mut E, error: RecordsError)
     ensures { Tells (E.contents errors.old) (E.contents errors.new) (records_line error) }
 {
     match error {
@@ -87,6 +87,58 @@ pub fn tell_run_fault<E: Write>(errors: &mut E, fault: RunFault)
         RunFault::CutReload => b"collate: reload cut\n",
     };
     tell(errors, &[line]);
+}
+
+/// What a run is begun with: the words, and the records of FILE. Where there is none, the status of the program; why is told.
+pub(crate) fn open_file<'a, 'w, E: Write>(
+    alloc: Global,
+    limits: Limits,
+    choice: Option<&'a Choice<'w>>,
+    file: Result<&[u8], FileFault>,
+    errors: &mut E,
+) -> Result<(&'a Choice<'w>, Records), u8>
+    ensures opened { IfOk result (λ given. OpensFile limits choice.entry file.entry given.0 given.1) }
+    ensures untold { OnOk result (E.contents errors.new ≡ E.contents errors.old) }
+    ensures stopped { IfErr result (λ status. (reader writer : Option (List ℕ)) → ServesWithin limits status
+        reader reader writer writer (E.contents errors.old) (E.contents errors.new) choice.entry file.entry) }
+{
+    let Some(choice) = choice else {
+        tell(errors, &[b"usage: collate FILE [OPTION=VALUE]..\n"]);
+        return Err(2);
+    };
+    let bytes = match file {
+        Ok(bytes) => bytes,
+        Err(FileFault::Unreadable) => {
+            let path = choice.file.as_bytes();
+            tell(errors, &[b"collate: cannot read ", path, b"\n"]);
+            return Err(1);
+        }
+        Err(FileFault::Memory) => {
+            tell(errors, &[b"collate: memory\n"]);
+            return Err(1);
+        }
+    };
+    match Records::read_within(alloc, bytes, limits) {
+        Ok(records) => Ok((choice, records)),
+        Err(error) => {
+            tell_refusal(errors, error);
+            Err(1)
+        }
+    }
+}
+
+/// The status of the program when its run has ended; why it ended before its input did is told.
+pub(crate) fn status_of<E: Write>(errors: &mut E, ended: Result<(), RunFault>) -> u8
+    ensures status { result ≡ run_status ended }
+    ensures told { Tells (E.contents errors.old) (E.contents errors.new) (run_text ended) }
+{
+    match ended {
+        Ok(()) => 0,
+        Err(fault) => {
+            tell_run_fault(errors, fault);
+            1
+        }
+    }
 }
 
 /// Serves the words of the program and the bytes of FILE, as `serve_within` does within the standard limits.
@@ -133,30 +185,11 @@ pub fn serve_within<R: Read, W: Write, E: Write>(
         (E.contents errors.old) (E.contents errors.new)
         choice.entry file.entry }
 {
-    let Some(choice) = choice else {
-        tell(errors, &[b"usage: collate FILE [OPTION=VALUE]..\n"]);
-        return 2;
+    let (choice, records) = match open_file(alloc, setup.limits, choice, file, errors) {
+        Ok(opened) => opened,
+        Err(status) => return status,
     };
-    let bytes = match file {
-        Ok(bytes) => bytes,
-        Err(FileFault::Unreadable) => {
-            let path = choice.file.as_bytes();
-            tell(errors, &[b"collate: cannot read ", path, b"\n"]);
-            return 1;
-        }
-        Err(FileFault::Memory) => {
-            tell(errors, &[b"collate: memory\n"]);
-            return 1;
-        }
-    };
-    let records = match Records::read_within(alloc, bytes, setup.limits) {
-        Ok(records) => records,
-        Err(error) => {
-            tell_refusal(errors, error);
-            return 1;
-        }
-    };
-    match run_with_seed(
+    let ended = run_with_seed(
         alloc,
         records,
         &choice.prefs,
@@ -164,11 +197,6 @@ pub fn serve_within<R: Read, W: Write, E: Write>(
         setup.seed,
         reader,
         writer,
-    ) {
-        Ok(()) => 0,
-        Err(fault) => {
-            tell_run_fault(errors, fault);
-            1
-        }
-    }
+    );
+    status_of(errors, ended)
 }

@@ -11,6 +11,7 @@ pub requests-init : goal.requests-init
 requests-init g c = record {
   reader = c.requires.reader;
   writer = c.requires.writer;
+  flushed = λ before. before;
   none = c.requires.none;
   progress = progress-none c.args.index.now (g.R.Read.remaining (watched_inner c.args.reader.now)) (g.W.Write.contents (watched_inner c.args.writer.now));
 }
@@ -96,6 +97,7 @@ requests-preserved g c =
     record {
       reader = unfailed (watched_failed c.next_request.new.reader) (watched_failed c.answer_ready.new.reader) c.in-Ok-Some.ensures.failed (unfailed (watched_failed c.answer_ready.new.reader) (watched_failed c.requests.reader) c.in-Ok.ensures.reader c.requests.invariant.reader);
       writer = unfailed (watched_failed c.show_reply.new.writer) (watched_failed c.answer_ready.new.writer) c.in-Ok-show_reply.ensures.failed (unfailed (watched_failed c.answer_ready.new.writer) (watched_failed c.requests.writer) c.in-Ok.ensures.writer c.requests.invariant.writer);
+      flushed = λ before. c.in-Ok-show_reply.ensures.flushed;
       none = c.in-Ok.ensures.none;
       progress = progress-more c.args.index.now c.answer_ready.new.index r0 r1 r2 w0 w1 w2 c.answer_ready.new.count p c.in-Ok-Some.asked read.0 read.1 c.next_request.new.count got.spells
           c.answer-reply.new.index (reply_text c.answer-reply.result) got.answers c.if-not-asked.false (sent-all c.in-Ok-show_reply.field-0 w1 w2 (reply_text c.answer-reply.result) c.in-Ok-show_reply.ensures.bytes);
@@ -119,6 +121,7 @@ requests-preserved-else-not-asked g c =
     record {
       reader = unfailed (watched_failed c.next_request.new.reader) (watched_failed c.answer_ready.new.reader) c.in-Ok-Some.ensures.failed (unfailed (watched_failed c.answer_ready.new.reader) (watched_failed c.requests.reader) c.in-Ok.ensures.reader c.requests.invariant.reader);
       writer = unfailed (watched_failed c.show_reply.new.writer) (watched_failed c.answer_ready.new.writer) c.in-Ok-show_reply.ensures.failed (unfailed (watched_failed c.answer_ready.new.writer) (watched_failed c.requests.writer) c.in-Ok.ensures.writer c.requests.invariant.writer);
+      flushed = λ before. c.in-Ok-show_reply.ensures.flushed;
       none = c.in-Ok.ensures.none;
       progress = progress-more c.args.index.now c.answer_ready.new.index r0 r1 r2 w0 w1 w2 c.answer_ready.new.count p c.in-Ok-Some.asked read.0 read.1 c.next_request.new.count got.spells
           c.answer-reply.new.index (reply_text c.answer-reply.result) got.answers c.if-not-asked.false (sent-all c.in-Ok-show_reply.field-0 w1 w2 (reply_text c.answer-reply.result) c.in-Ok-show_reply.ensures.bytes);
