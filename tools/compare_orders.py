@@ -1,23 +1,28 @@
 #!/usr/bin/env python3
 """Compares orders of texts and sort keys with those of another program, on random records, options and texts.
 
-  compare_orders.py READING [PAIRS [SETS [SEED]]]
+  compare_orders.py READING [PAIRS [SETS [SEED [KIND]]]]
 
 READING is a folder with an independent reading of the definitions (tools/answers.py). There are 20,000 pairs over 100 sets of
-records unless PAIRS and SETS say otherwise, each set with eight choices of options. Two of three pairs are nearly equal
-(tools/random_pairs.py): a mark, a variant of a letter, a space or stop, an ignorable character, zeros before a number, or another
-normal form; some begin with the same long text. Each pair is asked in all five encodings, its bytes and units damaged at times,
-and for both keys. crates/tests_collation_rows compiles each set, with fast and with small tries, and answers; it has to be built
-(`rt run` in its folder; tools/answers.py). What differs is printed, and the status is then 1, as it is where a level decides less
-than one pair of a hundred. How many pairs each level decided is printed, and how many sets had lines of each kind.
+records unless PAIRS and SETS say otherwise, each set with eight choices of options. KIND is one of (tools/random_pairs.py)
+
+  near      two of three pairs nearly equal: but for a mark, a variant of a letter, a space or stop, an ignorable character, zeros
+            before a number, or in another normal form; some begin with the same long text; the KIND where none is said
+  numbers   numbers of all lengths, in digits of several scripts, beside variable characters, always numeric
+  scripts   as `near`, over lines of the root and of languages
+  parted    texts with long beginnings that part within a contraction, marks, a syllable, a number, or at an end of a range
+
+Each pair is asked in all five encodings, its bytes and units damaged at times, and for both keys. crates/tests_collation_rows
+compiles each set, with fast and with small tries, and answers; it has to be built (`rt run` in its folder; tools/answers.py). What
+differs is printed, and the status is then 1, as it is where a level decides less than one pair of a hundred that are `near`. How many
+pairs each level decided is printed, how many had numbers to be read by value, and how many sets had lines of each kind.
 """
 import random
 import sys
 
 from answers import SIDES, characters, load, options_of
 from compare_elements import differences
-from random_pairs import choose, random_pairs
-from random_weights import random_weights
+from random_pairs import KINDS, choose, random_pairs
 
 CHOICES = 8
 LEVELS = ('primary', 'secondary', 'case', 'tertiary', 'quaternary', 'characters', 'none')
@@ -41,7 +46,7 @@ def to_units(text):
 
 
 def shown(items, width):
-    return ''.join(f'{item:0{2 * width}x}' for item in items) or '-'
+    return b''.join(item.to_bytes(width, 'big') for item in items).hex() or '-'
 
 
 def encoded(source, side, text, is_whole):
@@ -75,6 +80,13 @@ def count_level(said, options, question, oracle, done):
     done[f'decided by {level}'] = done.get(f'decided by {level}', 0) + 1
 
 
+def count_numbers(said, text, done):
+    """Counts the longest run of digits that is read as a number."""
+    longest = max(map(len, ''.join('0' if c in said.digits else ' ' for c in text).split()), default=0)
+    most = next((most for most in (0, 7, 253, 254, 508) if longest <= most), 'more')
+    done[f'numbers of digits up to {most}'] = done.get(f'numbers of digits up to {most}', 0) + 1
+
+
 def count_features(said, lines, done):
     """Counts what a set of records has."""
     records = [line.split(' ;') for line in lines if line[:2] in ('w ', 't ')]
@@ -91,24 +103,27 @@ def count_features(said, lines, done):
         done[f'sets with {name}'] = done.get(f'sets with {name}', 0) + 1
 
 
-def compare_set(source, oracle, count, done):
-    """Compares so many pairs over one random set of records; what differs."""
-    lines, said, pairs = random_pairs(source, oracle.read, lambda said: isinstance(said, oracle.Fault), random_weights)
+def compare_set(source, oracle, kind, count, done):
+    """Compares so many pairs of a kind over one random set of records; what differs."""
+    lines, said, pair = random_pairs(source, oracle.read, lambda said: isinstance(said, oracle.Fault), kind)
     count_features(said, lines, done)
     script = ['records', *lines, '', 'collators']
     for _ in range(CHOICES):
-        words = choose(source)
+        words = choose(source, kind)
         script.append(f'options {words}')
         for _ in range(-(-count // CHOICES)):
-            left, right = pairs.pair()
+            left, right = pair()
             questions = list(order_questions(source, left, right))
             count_level(said, options_of(words, oracle), questions[0], oracle, done)
+            if 'numeric' in words:
+                count_numbers(said, left, done)
             script += [*questions, key_question(source, left), key_question(source, right)]
     return [(*fault, *lines) for fault in differences('\n'.join([*script, '']), oracle, done)]
 
 
 def main(words):
-    if not 1 <= len(words) <= 4 or not all(map(str.isdigit, words[1:])):
+    kind = words[4] if len(words) == 5 else 'near'
+    if not 1 <= len(words) <= 5 or not all(map(str.isdigit, words[1:4])) or kind not in KINDS:
         sys.stderr.write(__doc__)
         return 2
     oracle = load(words[0])
@@ -116,12 +131,12 @@ def main(words):
     source = random.Random(seed)
     done, faults = {}, []
     for _ in range(sets):
-        faults += compare_set(source, oracle, -(-pairs // sets), done)
+        faults += compare_set(source, oracle, kind, -(-pairs // sets), done)
     for name, made in sorted(done.items()):
         print(f'{name:40} {made:7}')
     for fault in faults[:5]:
         print(*fault, sep='\n  ')
-    few = [level for level in LEVELS if done.get(f'decided by {level}', 0) < pairs // 100]
+    few = [level for level in LEVELS if kind == 'near' and done.get(f'decided by {level}', 0) < pairs // 100]
     print(f'{len(faults)} differ' + ''.join(f', few pairs decided by {level}' for level in few))
     return 1 if faults or few else 0
 

@@ -1,8 +1,14 @@
-"""Random pairs of texts that differ in little, for compare_orders.py, over the weights of random_weights.py and more characters:
-variants of letters, each of which differs from its letter in one weight, variable and ignorable ones."""
+"""Random pairs of texts that differ in little, for compare_orders.py, over the weights of random_weights.py, more digits, or lines
+of the root and of languages, and over more characters: variants of letters, each of which differs from its letter in one weight,
+variable and ignorable ones."""
+import functools
+import glob
+import os
 import unicodedata
 
-from random_weights import random_characters
+from random_weights import piece, random_weights, range_characters, recorded_texts
+
+FOLDER = os.path.join(os.path.dirname(os.path.dirname(os.path.realpath(__file__))), 'records')
 
 # characters that random_weights.py leaves alone: some below 0100, and some by one and by two units
 FRESH = [*range(0x41, 0x5B), *range(0xD0, 0xD7), *range(0x411, 0x430), *range(0xE000, 0xE008), *range(0x10411, 0x10430)]
@@ -13,6 +19,22 @@ GROUPS = ['0306 030A 030C 0310', '0306 030A 030C 0310', '2A40 2A80 2AC0 6000', '
 REORDERED = ['2A 2B 2B 2A', '60 29 29 60', '2A 60 60 2B 2B 2A', '29 2A 2A 29 60 61 61 60', '03 2A 2A 03', '61 2B 2B 61']
 STRENGTHS = [None, 'primary', 'secondary', *['tertiary'] * 2, *['quaternary'] * 3, *['identical'] * 3]
 WEIGHTS = ('twin', 'secondary', 'case', 'case', 'case bits', 'tertiary', 'quaternary')
+# zeros of scripts: of one, two, three and four bytes in UTF-8
+ZEROS = [0x30, 0x660, 0x966, 0xE50, 0xFF10, 0x1D7CE]
+# how many digits numbers have: parts of a number have 254 at most, and up to 7 are read by their value
+COUNTS = [*[1, 1, 2, 3, 4, 5, 6, 7, 7, 8, 9, 16, 60] * 2, 253, 254, 255, 256, 300, 507, 508, 509, 762, 763]
+EDGES = [0, 9, 10, 73, 74, 327, 328, 10233, 10234, 10235, 1042489, 1042490, 1042491, 9999999, 10**7, 10**8]
+# characters of the root, some of each group in a set
+SCRIPTS = [[*range(0x61, 0x7B)], [*range(0x41, 0x5B), *range(0xC0, 0x180)], [*range(0x1EA0, 0x1EFA)], [*range(0x300, 0x329)],
+           [*range(0xE01, 0xE4C)], [*range(0x3041, 0x3097), 0x3099, 0x309A, 0x309D, 0x309E],
+           [*range(0x30A1, 0x30FF), *range(0xFF66, 0xFFA0)], [*range(0x4E00, 0x4E30), *range(0xF900, 0xF910)],
+           [*range(0x1100, 0x1113), *range(0x1161, 0x1176), *range(0x11A8, 0x11C3)],
+           [*range(0x20, 0x30), *range(0x3A, 0x41), *range(0xA0, 0xC0), *range(0x2010, 0x2045), *range(0x20A0, 0x20C0)],
+           [zero + value for zero in ZEROS for value in range(10)],
+           [*range(0x3B1, 0x3CF), *range(0x430, 0x460), *range(0x5D0, 0x5EB), *range(0x621, 0x64B)],
+           [*range(0x905, 0x94E), *range(0xF40, 0xF85), *range(0x1F600, 0x1F610)]]
+MOST_NAMED = 135
+LENGTHS = [*[1, 2, 5, 9, 14, 15, 16, 17, 18, 31, 40] * 3, *[62, 63, 64, 65, 66] * 2, 90, 130, 218, 222, 240, 260, 515]
 
 
 def setting_lines(source):
@@ -28,11 +50,12 @@ def setting_lines(source):
     return lines + [line for line in IGNORABLE if source.random() < 0.7]
 
 
-def choose(source):
-    """Options by chance, as words."""
-    given = [source.choice(STRENGTHS), source.choice([None, 'shifted', 'nonignorable']),
+def choose(source, kind):
+    """Options by chance, as words; over numbers always numeric, and mostly shifted."""
+    has_numbers = kind == 'numbers'
+    given = [source.choice(STRENGTHS), source.choice([None, 'shifted', 'shifted' if has_numbers else 'nonignorable']),
              source.choice([None, None, 'space', 'punctuation', 'symbol', 'currency']), source.choice([None, 'caselevel']),
-             source.choice([None, None, 'off', 'lower', 'upper']), source.choice([None, 'numeric'])]
+             source.choice([None, None, 'off', 'lower', 'upper']), source.choice(['numeric' if has_numbers else None, 'numeric'])]
     return ','.join(filter(None, given)) or 'none'
 
 
@@ -91,11 +114,91 @@ def kept_lines(lines, more, read, is_fault):
     return lines
 
 
+def digit_weights(source, read, is_fault):
+    """As random_weights, with the digits of several scripts."""
+    lines, *characters = random_weights(source, read, is_fault)
+    more = []
+    for zero in source.sample(ZEROS, source.randint(1, 4)):
+        tertiary = source.choice(['0500', '0900', '3F00'])
+        for value in range(10):
+            more += [f'w {zero + value:04X} ; [29{16 + value}0000.0500.0.{tertiary}.0]', f'digit {zero + value:04X} {value}']
+    return kept_lines(lines, more, read, is_fault), *characters
+
+
+def named(line):
+    """The characters that a line names, other than one of a range or a setting."""
+    return frozenset(int(word, 16) for word in line.split(' ;')[0].split(' ')[1:] if len(word) >= 4)
+
+
+def said_in(name):
+    """The lines of a file of records, but for comments."""
+    with open(os.path.join(FOLDER, name), encoding='ascii') as file:
+        return [line for line in file.read().split('\n') if line and not line.startswith('#')]
+
+
+@functools.lru_cache(None)
+def root_lines():
+    """The lines of the root: settings and ranges, the characters that others name with them, and what characters map to."""
+    lines = said_in('root.records')
+    whole = [line for line in lines if line.startswith(('set ', 'range '))]
+    others = [(named(line), line) for line in lines if not line.startswith(('set ', 'range '))]
+    mapped = {int(line.split(' ')[1], 16): names for names, line in others if line.startswith('map ')}
+    return whole, others, mapped
+
+
+@functools.lru_cache(None)
+def tailorings():
+    """The lines of each language over the root, Czech more than once; those of many lines only behind prefixes."""
+    names = [os.path.relpath(path, FOLDER) for path in sorted(glob.glob(os.path.join(FOLDER, 'languages/*.records')))]
+    found = [said_in(name) for name in [*names, *['languages/cs.records'] * 20]]
+    return [lines if len(lines) < 600 else [line for line in lines if '|' in line] for lines in found]
+
+
+def tailored_lines(source):
+    """Some lines of a language, and its settings."""
+    lines = source.choice(tailorings())
+    records = [line for line in lines if line.startswith('t ') and 'FFF' not in line]
+    first = source.randint(0, max(0, len(records) - 24))
+    return [line for line in lines if line.startswith('set ')], records[first:first + source.choice([0, 8, 24])]
+
+
+def without_faults(lines, read, is_fault):
+    """Lines without those that a reader refuses."""
+    while is_fault(found := read('\n'.join([*lines, '']).encode())):
+        lines = [*lines[:found.line - 1], *lines[found.line:]]
+    return lines
+
+
+def script_weights(source, read, is_fault):
+    """As random_weights, by lines of the root about characters of some scripts, and of a language."""
+    whole, others, mapped = root_lines()
+    settings, tailored = tailored_lines(source)
+    chosen = set().union(*map(named, tailored))
+    groups = source.sample(SCRIPTS, source.randint(3, 7))
+    pools = [source.sample(group, min(len(group), MOST_NAMED // len(groups))) for group in groups]
+    for c in source.sample(sum(pools, []), sum(map(len, pools))):
+        parts = {c, *mapped.get(c, ()), *(d for part in mapped.get(c, ()) for d in mapped.get(part, ()))}
+        chosen |= parts if len(chosen | parts) <= MOST_NAMED else set()
+    lines = settings if source.random() < 0.5 else []
+    lines += [line for line in whole if source.random() < (0.4 if line.startswith('range') else 0.9)]
+    lines += [line for names, line in others if names <= chosen]
+    lines = without_faults([*lines, *tailored], read, is_fault)
+    marks = sorted(c for line in lines if line.startswith('class ') for c in named(line))
+    maps = sorted(chosen & {*mapped})
+    letters = sorted(chosen - {*marks, *maps})
+    return lines, letters or [0x61], marks or [0x301], maps
+
+
+def any_weights(source, read, is_fault):
+    """Those of one kind or the other."""
+    return source.choice([random_weights, script_weights])(source, read, is_fault)
+
+
 class Pairs:
     """Pairs of texts over records."""
 
     def __init__(self, source, said, lines, speaks_of, variants):
-        self.source, self.said, self.lines, self.speaks_of = source, said, lines, speaks_of
+        self.source, self.said, self.speaks_of = source, said, speaks_of
         letters, self.marks, _ = speaks_of
         self.twins = {}
         for variant, letter in variants.items():
@@ -105,9 +208,14 @@ class Pairs:
         self.small = [c for c in (0x20, 0x2E, 0x2C, 0x2B, 0x24, 0xFFFE) if c in said.texts or c == 0xFFFE]
         self.empty = [c for c in (0xAD, 1, 0x200B, 0xAF) if c in said.texts]
         self.digits = [c for c in said.digits if said.digits[c] == 0]
+        self.texts, self.ends = recorded_texts(lines), range_characters(lines)
+        self.recorded = [text for text in self.texts if len(text) > 1] or [[0x61, 0x62]]
+        self.near_ends = self.ends or [0x4E00, 0x9FFF]
 
     def text(self):
-        return random_characters(self.source, self.lines, *self.speaks_of)
+        count = self.source.randint(1, 8)
+        parts = [piece(self.source, self.texts, self.ends, *self.speaks_of) for _ in range(count)]
+        return [c for part in parts for c in part]
 
     def put(self, left, right, part, other):
         """Both texts with a part at one place, which differs in them."""
@@ -186,13 +294,142 @@ class Pairs:
         front = front * self.source.choice([1, 1, 2, 20])
         return front + left, front + right
 
+    def value(self):
+        """The digits of a number, of any length: by chance, near an edge, with many zeros or nines, or nothing but zeros."""
+        source, count = self.source, self.source.choice(COUNTS)
+        kind = source.random()
+        if kind < 0.2:
+            return [int(digit) for digit in str(source.choice(EDGES))]
+        if kind < 0.3:
+            return [source.choice([0, 0, 1, 9])] + [source.choice([0, 9])] * (count - 1)
+        digits = source.choices(range(10), k=count)
+        if kind < 0.5:
+            place = source.choice([1, min(count, 253), min(count, 254), source.randint(0, count)])
+            zeros = source.choice([1, 2, 3, 250, 254, 255])
+            digits = digits[:place] + [0] * zeros + digits[place:source.choice([place, count])]
+        return digits
 
-def random_pairs(source, read, is_fault, random_weights):
-    """Records that a reader takes, and pairs of texts over them."""
-    lines, *speaks_of = random_weights(source, read, is_fault)
+    def near_value(self, digits):
+        """The digits of a number near another: with more zeros before it, or with one digit changed, more or less."""
+        source, kind = self.source, self.source.random()
+        other, place = list(digits), self.source.randrange(len(digits))
+        if kind < 0.35:
+            return [0] * source.choice([1, 2, 7, 100, 253, 254, 255, 300]) + other
+        if kind < 0.6:
+            other[place] = source.randrange(10)
+        elif kind < 0.75:
+            other.insert(place, source.choice([0, 0, 5]))
+        elif kind < 0.9:
+            other = other + [source.randrange(10)] if source.random() < 0.5 else other[:-1] or [0]
+        return other
+
+    def written(self, digits):
+        """Digits in characters: of one script, or of several."""
+        by_value = {}
+        for c, value in sorted(self.said.digits.items()):
+            by_value.setdefault(value, []).append(c)
+        if self.source.random() < 0.5:
+            place = self.source.randrange(8)
+            return [by_value[value][place % len(by_value[value])] for value in digits if value in by_value]
+        return [self.source.choice(by_value[value]) for value in digits if value in by_value]
+
+    def joint(self):
+        """What stands beside a number: nothing, some variable or ignorable characters, letters and marks, or a text."""
+        source = self.source
+        parts = [source.choice(self.small + self.empty), source.choice(self.small), source.choice(self.marks),
+                 source.choice(self.letters or [0x61])]
+        if source.random() < 0.1:
+            return self.text()
+        return source.sample(parts, source.choice([0, 0, 1, 1, 2, 3]))
+
+    def numbers(self):
+        """Two texts with numbers near one another."""
+        one = self.value()
+        other = self.near_value(one) if self.source.random() < 0.9 else self.value()
+        front, back = self.joint(), self.joint()
+        front += self.written(self.value()) + self.joint() if self.source.random() < 0.2 else []
+        left, right = front + self.written(one) + back, front + self.written(other) + back
+        if self.source.random() < 0.2:
+            place = self.source.randint(0, len(right))
+            right[place:place] = [self.source.choice(self.small + self.empty + self.marks)]
+        return self.source.choice([(left, right), (right, left)])
+
+    def front(self):
+        """A long text of a kind: of one letter or all, recorded texts, low letters, syllables, characters of ranges, a mixture."""
+        source, length = self.source, self.source.choice(LENGTHS)
+        letters = self.speaks_of[0]
+        low = [c for c in letters if c < 0x80] or letters
+        pools = [letters, low, low, [source.choice(letters)], source.sample(letters, min(3, len(letters))), self.near_ends,
+                 source.choices(range(0xAC00, 0xD7A4), k=20), [*self.small, *letters], [*letters, *self.marks]]
+        if source.random() < 0.25:
+            texts = source.choices(self.recorded, k=length)
+            return [c for text in texts for c in text][:length]
+        if source.random() < 0.1:
+            text = self.text()
+            return [text[place % len(text)] for place in range(length)]
+        return source.choices(source.choice(pools), k=length)
+
+    def part_in_text(self):
+        """Two texts that part within what is recorded together."""
+        text, other = self.source.choice(self.recorded), self.source.choice(self.recorded)
+        place = self.source.randint(1, len(text) - 1)
+        end = [self.source.choice(self.speaks_of[0])]
+        return list(text), text[:place] + self.source.choice([[], end, other[place:], other, [self.source.choice(self.marks)] + text[place:]])
+
+    def part_in_marks(self):
+        """Two letters with marks, one more, one less, another, or in another order."""
+        letter = [self.source.choice([*self.speaks_of[0], *self.speaks_of[2]])]
+        marks = self.source.choices(self.marks, k=self.source.choice([1, 1, 2, 3, 5]))
+        other = self.source.choice([marks[:-1], marks[1:], marks + marks[:1], marks[::-1], marks[:-1] + [self.source.choice(self.marks)]])
+        return letter + marks, letter + other
+
+    def part_in_syllable(self):
+        """Two syllables of which one letter differs or lacks, or one syllable and its letters."""
+        leading, vowel, trailing = [self.source.randrange(count) for count in (19, 21, 28)]
+        others = [(self.source.randrange(19), vowel, trailing), (leading, self.source.randrange(21), trailing),
+                  (leading, vowel, self.source.choice([0, self.source.randrange(28)]))]
+        left, right = (0xAC00 + (one * 21 + two) * 28 + three for one, two, three in ((leading, vowel, trailing), self.source.choice(others)))
+        spelled_out = [0x1100 + leading, 0x1161 + vowel] + ([0x11A7 + trailing] if trailing else [])
+        return [left], self.source.choice([[right], [right], spelled_out, [left - trailing, *spelled_out[2:]]])
+
+    def part_in_number(self):
+        """Two numbers that begin alike, or one and a letter."""
+        digits = self.written(self.source.choices(range(10), k=self.source.choice([1, 2, 7, 8, 254])))
+        ends = [self.written([self.source.randrange(10)]) for _ in range(2)]
+        return digits + ends[0], digits + self.source.choice([[], ends[1], [self.source.choice(self.speaks_of[0])]])
+
+    def part_at_end(self):
+        """Two characters at the ends of ranges."""
+        return [self.source.choice(self.near_ends)], [self.source.choice(self.near_ends)]
+
+    def part_in_letter(self):
+        """Two variants of a letter, or a variable or ignorable character and none."""
+        if self.source.random() < 0.5:
+            return self.varied([])
+        return [self.source.choice(self.small + self.empty)], self.source.choice([[], [self.source.choice(self.small)]])
+
+    def parted(self):
+        """Two texts with a long beginning in common that part within what is read together; what follows is the same, or not."""
+        parts = [self.part_in_text, self.part_in_text, self.part_in_marks, self.part_in_syllable, self.part_in_number, self.part_at_end,
+                 self.part_in_letter]
+        left, right = self.source.choice(parts)()
+        front, kind = self.front(), self.source.random()
+        tails = [self.text(), self.text()] if kind < 0.1 else [self.source.choice([[], [], self.text(), self.front()])] * 2
+        left, right = front + left + tails[0], front + right + tails[1]
+        return self.source.choice([(left, right), (right, left)])
+
+
+KINDS = {'near': (random_weights, Pairs.pair), 'numbers': (digit_weights, Pairs.numbers), 'scripts': (script_weights, Pairs.pair),
+         'parted': (any_weights, Pairs.parted)}
+
+
+def random_pairs(source, read, is_fault, kind):
+    """Records that a reader takes, and what gives pairs of texts of a kind over them."""
+    weights, pair = KINDS[kind]
+    lines, *speaks_of = weights(source, read, is_fault)
     lines = kept_lines(lines, setting_lines(source), read, is_fault)
     more, variants = variant_lines(source, read('\n'.join([*lines, '']).encode()), speaks_of[0])
     lines = kept_lines(lines, more, read, is_fault)
     said = read('\n'.join([*lines, '']).encode())
     variants = {variant: letter for variant, letter in variants.items() if variant in said.texts}
-    return lines, said, Pairs(source, said, lines, speaks_of, variants)
+    return lines, said, functools.partial(pair, Pairs(source, said, lines, speaks_of, variants))
