@@ -43,7 +43,7 @@ NAMES = ['add ch', 'add cl', 'add ab', 'list', 'add ab', 'between a\tch', 'betwe
 RELOADS = [f'reload {len(CHANGED)}\n' + '\n'.join(CHANGED), 'list', 'reload 1\nw 61 ;', 'list', 'find ch']
 OTHERS = ['remove x', 'add', 'add \u00e1b', 'find a\u0301b', 'key \u1ea1\u0301', 'list']
 RUNS = [(['strength=primary'], NAMES + OTHERS), (['strength=identical', 'numeric=on', 'alternate=shifted'], NAMES + RELOADS + OTHERS)]
-STORED = ['collate', 'collate_reload']
+STORED = ['collate']
 TAKING = ('add ', 'find ', 'between ', 'key ', 'list', 'reload ')
 REFUSALS = {'Err(Memory)', 'Err(AllocError)', 'Err(Sink(AllocError))'}
 
