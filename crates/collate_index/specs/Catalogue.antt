@@ -10,7 +10,7 @@ use Rattle.collate_lines.specs.Lines.{records_of}
 use Rattle.collate_lines.specs.Record.{Record}
 use Rattle.collate_records.specs.Files.{FileRecords}
 use Rattle.collate_rules.specs.Meaning.{settings_of}
-use Rattle.collate_names.specs.Names.{TextOrder, in_order}
+use Rattle.collate_lists.specs.Names.{TextOrder, in_order}
 use Rattle.collate_index.specs.Meaning.{Meaning, meaning_of, order_by}
 use Rattle.collate_index.specs.declared.asked.Asked.{Asked}
 

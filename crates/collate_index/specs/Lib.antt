@@ -6,5 +6,5 @@ pub mod KeptChanges
 pub mod Listing
 pub mod Meaning
 pub mod Reloads
-pub use Rattle.collate_names.specs.Names
-pub use Rattle.collate_names.specs.Search
+pub use Rattle.collate_lists.specs.Names
+pub use Rattle.collate_lists.specs.Search

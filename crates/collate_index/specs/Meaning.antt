@@ -11,7 +11,7 @@ use Rattle.icu_collator.specs.Order.{collation_order}
 use Rattle.icu_collator.specs.Settings.{has_plain_leads}
 use Rattle.collate_lines.specs.Record.{Record}
 use Rattle.collate_rules.specs.Meaning.{collation_of}
-use Rattle.collate_names.specs.Names.{TextOrder}
+use Rattle.collate_lists.specs.Names.{TextOrder}
 
 pub record Meaning : Type 0 where
   -- what the lines of the records file say

@@ -12,8 +12,8 @@ ghost use Rattle.collate_lines.specs.Lines.{records_of};
 ghost use Rattle.collate_name_list.specs.StoredNames.{names_of};
 ghost use Rattle.collate_records.specs.Files.{IsAcceptedWithin};
 ghost use Rattle.collate_rules.specs.Meaning.{collation_of};
-ghost use Rattle.collate_names.specs.Names.{equal_names, names_between};
-ghost use Rattle.collate_names.specs.Search.{IsPlaceOf};
+ghost use Rattle.collate_lists.specs.Names.{equal_names, names_between};
+ghost use Rattle.collate_lists.specs.Search.{IsPlaceOf};
 ghost use Rattle.collate_index.specs.Catalogue.{AreDistinct, meaning_in, opened, options_in, order_of, preferences_of, reloaded, sorted_names, with_name, without_name};
 ghost use Rattle.collate_index.specs.Keys.{IsKeyOf};
 ghost use Rattle.collate_index.specs.Reloads.{AreKeysMade, IsRefused};
@@ -96,7 +96,7 @@ impl Index {
     /// others. `new` has a seed that everyone knows.
     ///
     /// Errors: `AllocError` where memory is refused, and for nothing else.
-    #[tactic(auto, unfolding(collate_names::specs::Names::in_order))]
+    #[tactic(auto, unfolding(collate_lists::specs::Names::in_order))]
     pub fn with_seed(
         alloc: Global,
         records: Records,

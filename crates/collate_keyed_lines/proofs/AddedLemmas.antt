@@ -1,7 +1,7 @@
 -- lists of lines after a line was added
 use Rattle.std.proofs.Common.{◌≡◌, ℕ, ◌++◌, ◌∷◌, [], List, length, map, subst, sym}
 use Rattle.std.specs.List.{All}
-use Rattle.collate_places.specs.Fronts.{IsFrontOf}
+use Rattle.collate_lists.specs.Fronts.{IsFrontOf}
 use Rattle.collate_keyed_lines.specs.Slots.{AreWithin, IsKept, IsSlotOf, line_between, line_of, lines_inside}
 use Rattle.collate_keyed_lines.specs.declared.lines.KeyedLines.TheInside.{Inside}
 use Rattle.collate_keyed_lines.specs.declared.slots.Bounds.{Bounds}

@@ -6,9 +6,9 @@ use Rattle.std.specs.Ordering.{ordering_reverse}
 use Rattle.std.specs.declared.cmp.Ordering.{Ordering}
 use Rattle.std.specs.declared.cmp.Ordering.TheVariants.{Less, Equal, Greater}
 use Rattle.std.proofs.lemmas.List.Elements.{All-cons, All-filter, All-head, All-nil, All-tail, All-weaker}
-use Rattle.collate_names.specs.Names.{is_equal, is_greater}
-use Rattle.collate_names.proofs.NamesLemmas.{Rises, first_upto, upto_chain}
-use Rattle.collate_names.proofs.NameSearchLemmas.{filter_all}
+use Rattle.collate_lists.specs.Names.{is_equal, is_greater}
+use Rattle.collate_lists.proofs.NamesLemmas.{Rises, first_upto, upto_chain}
+use Rattle.collate_lists.proofs.NameSearchLemmas.{filter_all}
 use Rattle.collate_keyed_lines.specs.KeyedLines.{first_of_equals, is_same}
 
 equal_back : (r : Ordering) → is_equal (ordering_reverse r) ≡ is_equal r

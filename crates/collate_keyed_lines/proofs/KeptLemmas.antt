@@ -9,8 +9,8 @@ use Rattle.std.proofs.lemmas.List.Elements.{All-same}
 use Rattle.std.proofs.lemmas.List.Sorted.{All-permutation}
 use Rattle.std.proofs.lemmas.Option.{IfSome_then, slice_get-map}
 use Rattle.std.proofs.lemmas.Result.{on_ok_weaker}
-use Rattle.collate_names.specs.Names.{in_order}
-use Rattle.collate_names.proofs.NamesLemmas.{Rises-in_order, in_order_is_permutation}
+use Rattle.collate_lists.specs.Names.{in_order}
+use Rattle.collate_lists.proofs.NamesLemmas.{Rises-in_order, in_order_is_permutation}
 use Rattle.collate_keyed_lines.specs.KeyedLines.{AreInOrder, IsFirstUnordered, KeyedLine, first_of_equals, is_same, key_order, turned}
 use Rattle.collate_keyed_lines.specs.Slots.{IsKept, IsSlotOf, line_of, lines_inside, slot_order}
 use Rattle.collate_keyed_lines.specs.declared.direction.Direction.{Direction}

@@ -4,8 +4,8 @@ use Rattle.std.specs.List.{All, dedup, dedup_from, filter}
 use Rattle.std.specs.declared.cmp.Ordering.{Ordering}
 use Rattle.std.proofs.lemmas.List.{get_or-map, length-map}
 use Rattle.std.proofs.lemmas.List.Elements.{All-contains, All-cons, All-filter, All-head, All-tail, All-weaker}
-use Rattle.collate_names.specs.Names.{in_order, is_equal}
-use Rattle.collate_names.proofs.NameChangeLemmas.{in_order_alike, in_order_map}
+use Rattle.collate_lists.specs.Names.{in_order, is_equal}
+use Rattle.collate_lists.proofs.NameChangeLemmas.{in_order_alike, in_order_map}
 use Rattle.collate_keyed_lines.specs.KeyedLines.{AreInOrder, IsFirstUnordered, first_of_equals, is_same, may_follow}
 
 filter_mapped : {A B : Type 0} (f : A → B) (p : A → Bool) (q : B → Bool) (xs : List A) → All (λ x. p x ≡ q (f x)) xs → map f (filter p xs) ≡ filter q (map f xs)

@@ -15,8 +15,8 @@ use Rattle.std.proofs.lemmas.Fn.{always_returns_same}
 use Rattle.std.proofs.lemmas.List.Sorted.{ranks_by}
 use Rattle.std.proofs.lemmas.Result.{on_ok_weaker}
 use Rattle.std.proofs.lemmas.List.Elements.{All-cons, All-filter, All-head}
-use Rattle.collate_names.specs.Names.{in_order, is_greater}
-use Rattle.collate_names.proofs.NamesLemmas.{Rises, Rises-in_order, first_upto, in_order_is_stable}
+use Rattle.collate_lists.specs.Names.{in_order, is_greater}
+use Rattle.collate_lists.proofs.NamesLemmas.{Rises, Rises-in_order, first_upto, in_order_is_stable}
 
 less_back : (r : Ordering) → is_lt (ordering_reverse r) ≡ false → is_greater r ≡ false
 less_back Less h = refl

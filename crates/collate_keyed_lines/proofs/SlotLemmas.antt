@@ -11,8 +11,8 @@ use Rattle.std.proofs.lemmas.Cmp.{back_total, nat_cmp_total, nat_list_cmp_total,
 use Rattle.std.proofs.lemmas.List.{drop-append-le, get_or_append_left, take-append-le}
 use Rattle.std.proofs.lemmas.List.Elements.{All-head, All-push, All-tail, All-weaker}
 use Rattle.std.proofs.Math.Seq.{get_or-append_seam}
-use Rattle.collate_places.specs.Fronts.{IsFrontOf}
-use Rattle.collate_places.proofs.PlaceFrontLemmas.{fronts_tell}
+use Rattle.collate_lists.specs.Fronts.{IsFrontOf}
+use Rattle.collate_lists.proofs.PlaceFrontLemmas.{fronts_tell}
 use Rattle.collate_keyed_lines.specs.KeyedLines.{KeyedLine, key_order, turned}
 use Rattle.collate_keyed_lines.specs.Slots.{AreWithin, IsSlotOf, line_between, line_of, no_bounds, slot_order}
 use Rattle.collate_keyed_lines.specs.declared.direction.Direction.{Direction}

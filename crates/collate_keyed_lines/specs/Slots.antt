@@ -3,7 +3,7 @@ use Rattle.std.specs.Prelude.{ℕ, ◌<◌, ◌≤◌, All, List, length, map, s
 use Rattle.std.specs.Cmp.Lexicographic.{slice_cmp}
 use Rattle.std.specs.Ordering.{nat_cmp, on, then_cmp}
 use Rattle.std.specs.declared.cmp.Ordering.{Ordering}
-use Rattle.collate_places.specs.Fronts.{IsFrontOf}
+use Rattle.collate_lists.specs.Fronts.{IsFrontOf}
 use Rattle.collate_keyed_lines.specs.KeyedLines.{KeyedLine}
 use Rattle.collate_keyed_lines.specs.declared.slots.Bounds.{Bounds}
 use Rattle.collate_keyed_lines.specs.declared.slots.Slot.{Slot}

@@ -3,7 +3,7 @@
 ghost use Rattle.std.specs.Prelude.{◌≡◌, ◌==◌, List, [], ◌∷◌, ◌++◌, length, IfNone, IfOk, IfSome, OnErr, OnOk, map, slice_get, unwrap_or};
 ghost use Rattle.std.specs.List.{dedup};
 ghost use Rattle.std.specs.Option.{option_copied};
-ghost use Rattle.collate_names.specs.Names.{in_order};
+ghost use Rattle.collate_lists.specs.Names.{in_order};
 ghost use Rattle.collate_keyed_lines.specs.KeyedLines.{AreInOrder, IsFirstUnordered, KeyedLine, first_of_equals, is_same, key_order, turned};
 ghost use Rattle.collate_keyed_lines.specs.Slots.{AreWithin, line_between};
 

@@ -1,11 +1,11 @@
 //! Slots in order, and of those with one key the first.
 
 ghost use Rattle.std.specs.Prelude.{◌≡◌, IfNone, IfSome, OnErr, OnOk, length};
-ghost use Rattle.collate_names.specs.Names.{in_order};
+ghost use Rattle.collate_lists.specs.Names.{in_order};
 ghost use Rattle.collate_keyed_lines.specs.KeyedLines.{AreInOrder, IsFirstUnordered, is_same, may_follow, turned};
 ghost use Rattle.collate_keyed_lines.specs.Slots.{slot_order};
 ghost use Rattle.std.specs.List.{dedup};
-ghost use Rattle.collate_names.specs.Names.{is_equal};
+ghost use Rattle.collate_lists.specs.Names.{is_equal};
 
 use crate::direction::Direction;
 use crate::slots::{Bounds, Slot, compare};

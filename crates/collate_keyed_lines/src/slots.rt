@@ -1,7 +1,7 @@
 //! Where the parts of a line lie, and the slots that are put in order in its stead.
 
 ghost use Rattle.std.specs.Prelude.{◌≡◌, slice_get, slice_index, slice_index_or, slice_range};
-ghost use Rattle.collate_places.specs.Fronts.{IsFrontOf};
+ghost use Rattle.collate_lists.specs.Fronts.{IsFrontOf};
 ghost use Rattle.collate_keyed_lines.specs.Slots.{line_of, no_bounds, slot_order};
 
 use std::cmp::Ordering;

@@ -6,9 +6,9 @@ ghost use Rattle.std.specs.Cmp.Lexicographic.{slice_cmp};
 ghost use Rattle.std.specs.Ordering.{nat_cmp};
 ghost use Rattle.icu_normalizer_core.specs.Decoding.{utf8_chars};
 ghost use Rattle.icu_collator.specs.CollatorAnswers.{key_by};
-ghost use Rattle.collate_places.specs.Fronts.{IsFrontOf};
+ghost use Rattle.collate_lists.specs.Fronts.{IsFrontOf};
 
-use collate_places::fronts::Front;
+use collate_lists::fronts::Front;
 use icu_collator::CollatorBorrowed;
 use std::alloc::{AllocError, Global};
 use std::cmp::Ordering;

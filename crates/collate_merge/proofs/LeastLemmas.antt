@@ -4,8 +4,8 @@ use Rattle.std.specs.Cmp.{IsTotalOrder}
 use Rattle.std.specs.declared.cmp.Ordering.{Ordering}
 use Rattle.std.proofs.lemmas.Bool.{cases_eq, cases_lt}
 use Rattle.std.proofs.lemmas.Cmp.{tied_itself}
-use Rattle.collate_names.specs.Names.{is_greater}
-use Rattle.collate_names.proofs.NamesLemmas.{above_chain, upto_chain}
+use Rattle.collate_lists.specs.Names.{is_greater}
+use Rattle.collate_lists.proofs.NamesLemmas.{above_chain, upto_chain}
 use Rattle.collate_merge.specs.Least.{FindsLeast, IsLeast}
 
 module _ {X : Type 0} (is_done : X → Bool) (R : X → X → Ordering) (o : IsTotalOrder R) (xs : List X) (end : ℕ) where

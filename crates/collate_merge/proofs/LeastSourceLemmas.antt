@@ -3,7 +3,7 @@ use Rattle.std.proofs.Common.{◌≡◌, ℕ, ◌+◌, ◌<◌, Bool, true, fals
 use Rattle.std.proofs.lemmas.List.{get_or_default}
 use Rattle.collate_keyed_lines.specs.KeyedLines.{turned}
 use Rattle.collate_keyed_lines.specs.declared.direction.Direction.{Direction}
-use Rattle.collate_names.specs.Names.{is_greater}
+use Rattle.collate_lists.specs.Names.{is_greater}
 use Rattle.collate_merge.specs.KeyOrder.{byte_order}
 use Rattle.collate_merge.specs.Least.{FindsLeast, IsLeast}
 use Rattle.collate_merge.specs.Sources.{source_order}

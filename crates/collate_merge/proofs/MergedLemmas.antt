@@ -8,8 +8,8 @@ use Rattle.std.proofs.lemmas.List.Elements.{All-append, All-head, All-nil, All-t
 use Rattle.std.proofs.lemmas.List.Sorted.{All-permutation}
 use Rattle.collate_keyed_lines.specs.KeyedLines.{is_same}
 use Rattle.collate_keyed_lines.proofs.FirstLemmas.{first_kept}
-use Rattle.collate_names.specs.Names.{in_order, is_equal, is_greater, placed_before}
-use Rattle.collate_names.proofs.NamesLemmas.{Rises-in_order, in_order_is_permutation}
+use Rattle.collate_lists.specs.Names.{in_order, is_equal, is_greater, placed_before}
+use Rattle.collate_lists.proofs.NamesLemmas.{Rises-in_order, in_order_is_permutation}
 use Rattle.collate_merge.specs.Merged.{StartsAbove, StartsUpto, ordered_behind, ordered_part, put_in_order}
 use Rattle.collate_merge.specs.Written.{all_written, fresh_behind, last_behind, written_of}
 use Rattle.collate_merge.proofs.OrderedPartLemmas.{behind_upto, next_part, part_above, part_upto}

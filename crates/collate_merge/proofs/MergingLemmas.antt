@@ -7,7 +7,7 @@ use Rattle.std.specs.declared.cmp.Ordering.{Ordering}
 use Rattle.std.proofs.lemmas.Bool.{cases_eq}
 use Rattle.std.proofs.lemmas.List.{append-nil, get_or-set_other, get_or-set_same, length-set, set-get_or, set_split}
 use Rattle.collate_keyed_lines.specs.KeyedLines.{AreInOrder, IsFirstUnordered}
-use Rattle.collate_names.specs.Names.{in_order, is_greater}
+use Rattle.collate_lists.specs.Names.{in_order, is_greater}
 use Rattle.collate_merge.specs.Merged.{StartsAbove, StartsUpto, merged, ordered_behind, ordered_part, ordered_parts_merged, put_in_order}
 use Rattle.collate_merge.specs.Written.{all_written, last_behind, written_of}
 use Rattle.collate_merge.proofs.MergedLemmas.{head_out, none_in_order, step_out, written_all, written_more, written_none}

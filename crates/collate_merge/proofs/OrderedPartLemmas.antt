@@ -6,8 +6,8 @@ use Rattle.std.specs.declared.cmp.Ordering.{Ordering}
 use Rattle.std.proofs.lemmas.Cmp.{tied_itself}
 use Rattle.std.proofs.lemmas.List.Elements.{All-cons, All-weaker}
 use Rattle.collate_keyed_lines.specs.KeyedLines.{AreInOrder, IsFirstUnordered}
-use Rattle.collate_names.specs.Names.{is_greater}
-use Rattle.collate_names.proofs.NamesLemmas.{Rises, first_upto, upto_chain}
+use Rattle.collate_lists.specs.Names.{is_greater}
+use Rattle.collate_lists.proofs.NamesLemmas.{Rises, first_upto, upto_chain}
 use Rattle.collate_merge.specs.Merged.{StartsAbove, StartsUpto, ordered_behind, ordered_part}
 
 module _ {A : Type 0} (R : A → A → Ordering) where

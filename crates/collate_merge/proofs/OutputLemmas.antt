@@ -3,7 +3,7 @@ use Rattle.std.proofs.Common.{◌≡◌, ℕ, Bool, true, false, ◌&&◌, cond,
 use Rattle.std.specs.declared.cmp.Ordering.{Ordering}
 use Rattle.std.proofs.lemmas.List.{append-nil}
 use Rattle.collate_keyed_lines.specs.KeyedLines.{turned}
-use Rattle.collate_names.specs.Names.{is_equal}
+use Rattle.collate_lists.specs.Names.{is_equal}
 use Rattle.collate_rules.specs.Accepted.{AreAccepted}
 use Rattle.collate_merge.specs.KeyOrder.{byte_order}
 use Rattle.collate_merge.specs.Merges.{Merge, order_in, text_of}

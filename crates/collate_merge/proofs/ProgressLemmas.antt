@@ -8,7 +8,7 @@ use Rattle.std.proofs.lemmas.Grind.{flat_map-append}
 use Rattle.std.proofs.lemmas.List.{append-nil, get_or-drop, get_or-map, get_or-set_other, get_or-set_same, get_or-take, get_or_default, length-drop, length-map, length-set, length-take-le}
 use Rattle.collate_keyed_lines.specs.KeyedLines.{AreInOrder, IsFirstUnordered}
 use Rattle.collate_keyed_lines.specs.declared.direction.Direction.{Direction}
-use Rattle.collate_names.specs.Names.{in_order, is_greater}
+use Rattle.collate_lists.specs.Names.{in_order, is_greater}
 use Rattle.collate_rules.specs.Accepted.{AreAccepted}
 use Rattle.collate_merge.specs.Least.{FindsLeast, IsLeast}
 use Rattle.collate_merge.specs.Lines.{lines_in}

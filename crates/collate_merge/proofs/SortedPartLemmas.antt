@@ -5,8 +5,8 @@ use Rattle.std.specs.declared.cmp.Ordering.{Ordering}
 use Rattle.std.specs.declared.cmp.Ordering.TheVariants.{Greater}
 use Rattle.std.proofs.lemmas.List.Folds.{flat_map-map}
 use Rattle.collate_keyed_lines.specs.KeyedLines.{first_of_equals}
-use Rattle.collate_names.specs.Names.{in_order, is_greater, placed_before}
-use Rattle.collate_names.proofs.NamesLemmas.{above_chain, greater_is, turned}
+use Rattle.collate_lists.specs.Names.{in_order, is_greater, placed_before}
+use Rattle.collate_lists.proofs.NamesLemmas.{above_chain, greater_is, turned}
 use Rattle.collate_merge.specs.Merged.{merged}
 
 module _ {A : Type 0} (R : A → A → Ordering) (o : IsTotalOrder R) where

@@ -5,7 +5,7 @@ use Rattle.collate_columns.specs.LineParts.{part_of}
 use Rattle.collate_columns.specs.declared.part.LinePart.{LinePart}
 use Rattle.collate_keyed_lines.specs.KeyedLines.{turned}
 use Rattle.collate_keyed_lines.specs.declared.direction.Direction.{Direction}
-use Rattle.collate_names.specs.Names.{is_greater}
+use Rattle.collate_lists.specs.Names.{is_greater}
 use Rattle.collate_rules.specs.Accepted.{AreAccepted}
 use Rattle.collate_sort.specs.Keys.{key_by_rule}
 use Rattle.collate_sort.specs.Orders.{LineRule}

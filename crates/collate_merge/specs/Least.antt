@@ -1,7 +1,7 @@
 -- the first of those values that aren't done which is the least
 use Rattle.std.specs.Prelude.{◌≡◌, ℕ, ◌<◌, ◌≤◌, Bool, true, false, Option, None, Some, List, slice_index_or}
 use Rattle.std.specs.declared.cmp.Ordering.{Ordering}
-use Rattle.collate_names.specs.Names.{is_greater}
+use Rattle.collate_lists.specs.Names.{is_greater}
 
 -- of the values before an end the one at a place isn't done, it is below each before it, and above none behind it, but for those that are done
 pub record IsLeast {X : Type 0} (is_done : X → Bool) (order : X → X → Ordering) (xs : List X) (end least : ℕ) : Type 0 where

@@ -2,7 +2,7 @@
 use Rattle.std.specs.Prelude.{◌≡◌, Bool, true, false, cond, List, [], ◌∷◌, flat_map, ⊤}
 use Rattle.std.specs.declared.cmp.Ordering.{Ordering}
 use Rattle.collate_keyed_lines.specs.KeyedLines.{first_of_equals}
-use Rattle.collate_names.specs.Names.{in_order, is_greater}
+use Rattle.collate_lists.specs.Names.{in_order, is_greater}
 
 -- of values behind another those before the first that is below the one before it
 unfoldable pub ordered_behind : {A : Type 0} → (A → A → Ordering) → A → List A → List A

@@ -3,7 +3,7 @@ use Rattle.std.specs.Prelude.{Bool, true, false, cond, Option, None, Some, List,
 use Rattle.std.specs.List.{dedup}
 use Rattle.std.specs.declared.cmp.Ordering.{Ordering}
 use Rattle.collate_keyed_lines.specs.KeyedLines.{is_same}
-use Rattle.collate_names.specs.Names.{is_equal}
+use Rattle.collate_lists.specs.Names.{is_equal}
 
 -- of a value what is written behind the last
 abbrev pub written_of : {A : Type 0} → Bool → (A → A → Ordering) → Option A → A → List A

@@ -2,7 +2,7 @@
 
 ghost use Rattle.std.specs.Prelude.{◌≡◌};
 ghost use Rattle.collate_keyed_lines.specs.KeyedLines.{turned};
-ghost use Rattle.collate_names.specs.Names.{is_equal, is_greater};
+ghost use Rattle.collate_lists.specs.Names.{is_equal, is_greater};
 ghost use Rattle.collate_merge.specs.KeyOrder.{byte_order};
 
 use collate_keyed_lines::direction::Direction;

@@ -2,7 +2,7 @@
 
 ghost use Rattle.std.specs.Prelude.{◌≡◌, ℕ, Bool, List, map};
 ghost use Rattle.std.specs.Cmp.{IsTotalOrder};
-ghost use Rattle.collate_names.specs.Names.{TextOrder, in_order};
+ghost use Rattle.collate_lists.specs.Names.{TextOrder, in_order};
 ghost use Rattle.collate_merge.specs.Merged.{merged};
 
 /// Lists that were put in order one by one, and then merged, are all their values in order, under any order that is a

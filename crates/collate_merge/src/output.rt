@@ -2,7 +2,7 @@
 
 ghost use Rattle.std.specs.Prelude.{◌≡◌, ◌&&◌, ℕ, List, Option, None, IfErr, OnOk};
 ghost use Rattle.collate_keyed_lines.specs.KeyedLines.{turned};
-ghost use Rattle.collate_names.specs.Names.{is_equal};
+ghost use Rattle.collate_lists.specs.Names.{is_equal};
 ghost use Rattle.collate_rules.specs.Accepted.{AreAccepted};
 ghost use Rattle.collate_merge.specs.KeyOrder.{byte_order};
 ghost use Rattle.collate_merge.specs.Merges.{Merge, order_in, text_of};

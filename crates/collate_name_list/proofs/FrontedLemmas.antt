@@ -7,10 +7,10 @@ use Rattle.std.specs.Option.{option_map}
 use Rattle.std.proofs.lemmas.List.{length-map, get_or-map, map-append, take-map, drop-map}
 use Rattle.std.proofs.lemmas.List.Elements.{All-weaker}
 use Rattle.std.proofs.lemmas.Option.{slice_get_within, get_or_from_slice_get, slice_get-map}
-use Rattle.collate_places.specs.Fronts.{IsFrontOf}
-use Rattle.collate_places.specs.Windows.{shows}
-use Rattle.collate_places.specs.declared.windows.Placed.{Placed}
-use Rattle.collate_places.proofs.Rows.{All-insert, All-remove}
+use Rattle.collate_lists.specs.Fronts.{IsFrontOf}
+use Rattle.collate_lists.specs.Windows.{shows}
+use Rattle.collate_lists.specs.declared.windows.Placed.{Placed}
+use Rattle.collate_lists.proofs.Rows.{All-insert, All-remove}
 use Rattle.collate_name_list.specs.StoredNames.{StoredName}
 use Rattle.collate_name_list.specs.Slots.{AreFronted, IsFull, compared, entry_at, entry_of, places_of, sought_key}
 use Rattle.collate_name_list.specs.declared.slots.Stored.{Stored}

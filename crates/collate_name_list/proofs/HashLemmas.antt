@@ -2,7 +2,7 @@
 use Rattle.std.proofs.Common.{◌≡◌, ℕ, zero, suc, ◌+◌, ◌<◌, ◌≤◌, true, List, [], ◌∷◌, get_or, length, Option, Some, None, IfNone, IfSome, is_some, refl, sym, ap, ◌∙◌, arith, true≢false, ⊎_elim}
 use Rattle.std.specs.List.{Contains}
 use Rattle.std.proofs.lemmas.Bool.{cases_lt, cases_eq}
-use Rattle.collate_hashes.specs.Hashes.{hash_of}
+use Rattle.collate_lists.specs.Hashes.{hash_of}
 use Rattle.collate_name_list.specs.StoredNames.{names_of}
 use Rattle.collate_name_list.specs.Slots.{entry_at, entry_or_none, IsFull, entries, hash_in, hashes_in}
 use Rattle.collate_name_list.specs.declared.slots.Stored.{Stored}

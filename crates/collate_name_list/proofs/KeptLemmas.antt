@@ -6,13 +6,13 @@ use Rattle.std.proofs.lemmas.Bool.{false_from_ne_true}
 use Rattle.std.proofs.lemmas.Slice.Eq.{bytes_eq-Decides}
 use Rattle.std.proofs.lemmas.List.{length-map, get_or-map, map_push, map-set}
 use Rattle.std.specs.Option.{option_map}
-use Rattle.collate_names.specs.Names.{in_order}
-use Rattle.collate_names.specs.Search.{IsPlaceOf}
-use Rattle.collate_names.proofs.NameSearchLemmas.{filter_all}
-use Rattle.collate_names.proofs.NamePlaceLemmas.{place_map}
-use Rattle.collate_hashes.specs.Hashes.{hash_of}
-use Rattle.collate_places.specs.Fronts.{IsFrontOf}
-use Rattle.collate_places.specs.declared.windows.Placed.{Placed}
+use Rattle.collate_lists.specs.Names.{in_order}
+use Rattle.collate_lists.specs.Search.{IsPlaceOf}
+use Rattle.collate_lists.proofs.NameSearchLemmas.{filter_all}
+use Rattle.collate_lists.proofs.NamePlaceLemmas.{place_map}
+use Rattle.collate_lists.specs.Hashes.{hash_of}
+use Rattle.collate_lists.specs.Fronts.{IsFrontOf}
+use Rattle.collate_lists.specs.declared.windows.Placed.{Placed}
 use Rattle.collate_name_list.specs.StoredNames.{StoredName, key_order, names_of, sorted, without, AreDistinct}
 use Rattle.collate_name_list.specs.Slots.{AreFronted, places_of, entry_of, entry_at, IsFull, entries, hash_in, hashes_in, slots_by_key, names_inside, HaveOwnNames, IsKept}
 use Rattle.collate_name_list.specs.declared.slots.Stored.{Stored}

@@ -12,12 +12,12 @@ use Rattle.std.proofs.lemmas.List.Elements.{All-weaker, All-contains, filter_pas
 use Rattle.std.proofs.lemmas.List.Sorted.{All-permutation, sum_by-IsPermutation}
 use Rattle.std.specs.Option.{option_map}
 use Rattle.std.proofs.lemmas.Option.{slice_get-get_or, slice_get_within, get_or_from_slice_get, slice_get-map}
-use Rattle.collate_names.specs.Names.{in_order}
-use Rattle.collate_names.specs.Search.{stands_before, IsPlaceOf}
-use Rattle.collate_names.proofs.NamesLemmas.{in_order_is_permutation, length-in_order}
-use Rattle.collate_names.proofs.NameSearchLemmas.{in_order_parted}
-use Rattle.collate_names.proofs.NameChangeLemmas.{in_order_map, in_order_alike, in_order_tied, in_order_filter}
-use Rattle.collate_names.proofs.NamePlaceLemmas.{in_order_append, in_order_found, place_alike}
+use Rattle.collate_lists.specs.Names.{in_order}
+use Rattle.collate_lists.specs.Search.{stands_before, IsPlaceOf}
+use Rattle.collate_lists.proofs.NamesLemmas.{in_order_is_permutation, length-in_order}
+use Rattle.collate_lists.proofs.NameSearchLemmas.{in_order_parted}
+use Rattle.collate_lists.proofs.NameChangeLemmas.{in_order_map, in_order_alike, in_order_tied, in_order_filter}
+use Rattle.collate_lists.proofs.NamePlaceLemmas.{in_order_append, in_order_found, place_alike}
 use Rattle.collate_name_list.specs.StoredNames.{StoredName, key_order, names_of, sorted}
 use Rattle.collate_name_list.specs.Slots.{entry_of, entry_or_none, entry_at, IsFull, full_slots, entries, slots_by_key}
 use Rattle.collate_name_list.specs.declared.slots.Stored.{Stored}

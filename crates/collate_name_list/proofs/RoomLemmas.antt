@@ -5,12 +5,12 @@ use Rattle.std.specs.List.{All, Contains, filter}
 use Rattle.std.specs.Ordering.{on}
 use Rattle.std.proofs.lemmas.List.{length-map, get_or-map, get_or_at, length_push}
 use Rattle.std.proofs.lemmas.List.Elements.{All-map, All-weaker, Contains-get_or}
-use Rattle.collate_names.specs.Names.{in_order}
-use Rattle.collate_names.proofs.NameChangeLemmas.{in_order_map, in_order_alike}
-use Rattle.collate_hashes.specs.Hashes.{hash_of, is_hash}
-use Rattle.collate_places.specs.Fronts.{IsFrontOf}
-use Rattle.collate_places.specs.Lists.{renumbered, numbered as numbered_placed}
-use Rattle.collate_places.specs.declared.windows.Placed.{Placed}
+use Rattle.collate_lists.specs.Names.{in_order}
+use Rattle.collate_lists.proofs.NameChangeLemmas.{in_order_map, in_order_alike}
+use Rattle.collate_lists.specs.Hashes.{hash_of, is_hash}
+use Rattle.collate_lists.specs.Fronts.{IsFrontOf}
+use Rattle.collate_lists.specs.Lists.{renumbered, numbered as numbered_placed}
+use Rattle.collate_lists.specs.declared.windows.Placed.{Placed}
 use Rattle.collate_name_list.specs.StoredNames.{StoredName, key_order}
 use Rattle.collate_name_list.specs.Slots.{AreFronted, IsFull, places_of, entry_of, entry_or_none, entry_at, full_slots, entries, names_in, hashes_in, slots_by_key, HaveOwnNames, IsKept}
 use Rattle.collate_name_list.specs.Room.{numbers_from}

@@ -9,15 +9,15 @@ use Rattle.std.proofs.lemmas.Cmp.{on_total, then_total, nat_cmp_total, ranked}
 use Rattle.std.proofs.lemmas.List.{drop_all, drop_more, take_more}
 use Rattle.std.proofs.lemmas.List.Elements.{All-append, All-cons, All-contains, All-filter, All-head, All-nil, All-tail, All-weaker, filter_passes}
 use Rattle.std.proofs.lemmas.List.Sorted.{All-permutation}
-use Rattle.collate_names.specs.Names.{in_order, is_greater, placed_before}
-use Rattle.collate_names.specs.Search.{IsPlaceOf, stands_before}
-use Rattle.collate_names.proofs.NamesLemmas.{after_before, in_order_is_permutation, in_order_more, placed_after, turned}
-use Rattle.collate_names.proofs.NameChangeLemmas.{in_order_alike, in_order_filter, in_order_tied}
-use Rattle.collate_names.proofs.NamePlaceLemmas.{in_order_append}
-use Rattle.collate_names.proofs.NameSearchLemmas.{in_order_parted}
-use Rattle.collate_places.specs.Fronts.{IsFrontOf}
-use Rattle.collate_places.specs.declared.windows.Placed.{Placed}
-use Rattle.collate_places.proofs.Rows.{All-insert}
+use Rattle.collate_lists.specs.Names.{in_order, is_greater, placed_before}
+use Rattle.collate_lists.specs.Search.{IsPlaceOf, stands_before}
+use Rattle.collate_lists.proofs.NamesLemmas.{after_before, in_order_is_permutation, in_order_more, placed_after, turned}
+use Rattle.collate_lists.proofs.NameChangeLemmas.{in_order_alike, in_order_filter, in_order_tied}
+use Rattle.collate_lists.proofs.NamePlaceLemmas.{in_order_append}
+use Rattle.collate_lists.proofs.NameSearchLemmas.{in_order_parted}
+use Rattle.collate_lists.specs.Fronts.{IsFrontOf}
+use Rattle.collate_lists.specs.declared.windows.Placed.{Placed}
+use Rattle.collate_lists.proofs.Rows.{All-insert}
 use Rattle.collate_name_list.specs.StoredNames.{StoredName, key_order}
 use Rattle.collate_name_list.specs.Keys.{has_kept, is_at_kept, key_and_slot, settled, settled_by_key, slot_with_key, slots_with_keys}
 use Rattle.collate_name_list.specs.Slots.{AreFronted, IsFull, entry_at, entry_or_none, full_slots, places_of, slots_by_key}

@@ -1,8 +1,8 @@
 -- spans of places: a search begins with one, and one search finds both ends of those that are equal
 use Rattle.std.proofs.Common.{◌≡◌, ℕ, ◌≤◌, Bool, true, false, List, length, refl, arith, Ordering, Less, Equal, Greater}
 use Rattle.std.specs.List.{AllWithin}
-use Rattle.collate_names.specs.Search.{stands_before, IsPlaceOf}
-use Rattle.collate_names.proofs.NameSearchLemmas.{IsNarrowed}
+use Rattle.collate_lists.specs.Search.{stands_before, IsPlaceOf}
+use Rattle.collate_lists.proofs.NameSearchLemmas.{IsNarrowed}
 use Rattle.collate_name_list.specs.Slots.{IsSpan}
 
 -- what isn't above stands before, past equal ones

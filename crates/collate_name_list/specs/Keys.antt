@@ -2,8 +2,8 @@
 use Rattle.std.specs.Prelude.{ℕ, Bool, not, List, [], ◌∷◌, ◌++◌, Option, Some, None, drop, filter, is_some, slice_index_or, take}
 use Rattle.std.specs.Ordering.{nat_cmp, on, then_cmp}
 use Rattle.std.specs.declared.cmp.Ordering.{Ordering}
-use Rattle.collate_names.specs.Names.{in_order}
-use Rattle.collate_places.specs.declared.windows.Placed.{Placed}
+use Rattle.collate_lists.specs.Names.{in_order}
+use Rattle.collate_lists.specs.declared.windows.Placed.{Placed}
 use Rattle.collate_name_list.specs.StoredNames.{key_order}
 use Rattle.collate_name_list.specs.Slots.{entry_at, full_slots}
 use Rattle.collate_name_list.specs.declared.slots.Stored.{Stored}

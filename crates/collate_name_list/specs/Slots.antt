@@ -5,11 +5,11 @@ use Rattle.std.specs.Prelude.{All, ◌≡◌, ℕ, Bool, true, false, ◌+◌, �
 use Rattle.std.specs.Cmp.Lexicographic.{slice_cmp}
 use Rattle.std.specs.Ordering.{nat_cmp, on, ordering_then}
 use Rattle.std.specs.declared.cmp.Ordering.{Ordering}
-use Rattle.collate_names.specs.Names.{in_order}
-use Rattle.collate_names.specs.Search.{stands_before}
-use Rattle.collate_hashes.specs.Hashes.{hash_of}
-use Rattle.collate_places.specs.Fronts.{IsFrontOf}
-use Rattle.collate_places.specs.declared.windows.Placed.{Placed}
+use Rattle.collate_lists.specs.Names.{in_order}
+use Rattle.collate_lists.specs.Search.{stands_before}
+use Rattle.collate_lists.specs.Hashes.{hash_of}
+use Rattle.collate_lists.specs.Fronts.{IsFrontOf}
+use Rattle.collate_lists.specs.declared.windows.Placed.{Placed}
 use Rattle.collate_name_list.specs.StoredNames.{StoredName, key_order}
 use Rattle.collate_name_list.specs.declared.slots.Stored.{Stored}
 use Rattle.collate_name_list.specs.declared.slots.Sought.{Sought}

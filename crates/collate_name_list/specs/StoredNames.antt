@@ -4,7 +4,7 @@ use Rattle.std.specs.List.{AllPairs}
 use Rattle.std.specs.Cmp.Lexicographic.{slice_cmp}
 use Rattle.std.specs.Ordering.{nat_cmp}
 use Rattle.std.specs.declared.cmp.Ordering.{Ordering}
-use Rattle.collate_names.specs.Names.{in_order}
+use Rattle.collate_lists.specs.Names.{in_order}
 
 -- a name with its key, each given by its bytes
 pub record StoredName : Type 0 where

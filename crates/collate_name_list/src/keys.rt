@@ -6,8 +6,8 @@ ghost use Rattle.collate_name_list.specs.Slots.{AreFronted, places_of, slots_by_
 
 use crate::slots::{Sought, Stored, place_of, placed_in, stored_in, window_around};
 use collate_keys::IndexKey;
-use collate_places::PlaceList;
-use collate_places::windows::Placed;
+use collate_lists::place_list::PlaceList;
+use collate_lists::windows::Placed;
 use std::alloc::{AllocError, Global};
 use std::mem;
 

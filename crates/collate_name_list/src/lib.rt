@@ -9,4 +9,4 @@ pub mod name_list;
 mod room;
 mod slots;
 
-pub use collate_hashes::hashing::FIXED_SEED;
+pub use collate_lists::hashing::FIXED_SEED;

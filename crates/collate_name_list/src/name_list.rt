@@ -5,7 +5,7 @@ ghost use Rattle.std.specs.Cmp.Lexicographic.{slice_cmp};
 ghost use Rattle.std.specs.List.{Contains};
 ghost use Rattle.std.specs.Option.{option_copied};
 ghost use Rattle.std.specs.Ordering.{nat_cmp};
-ghost use Rattle.collate_names.specs.Search.{IsPlaceOf};
+ghost use Rattle.collate_lists.specs.Search.{IsPlaceOf};
 ghost use Rattle.collate_name_list.specs.StoredNames.{AreDistinct, names_of, rekeyed, sorted, without};
 
 use crate::arrived::Arrived;
@@ -15,10 +15,10 @@ use crate::room::{drop_empty, numbers_of};
 use crate::slots::{
     Stored, key_in, place_of_key, place_of_slot, range_of_key, slot_of_name, stored_in,
 };
-use collate_hashes::HashList;
+use collate_lists::hash_list::HashList;
 use collate_keys::IndexKey;
-use collate_places::PlaceList;
-use collate_places::windows::Placed;
+use collate_lists::place_list::PlaceList;
+use collate_lists::windows::Placed;
 use std::alloc::{AllocError, Global};
 use std::marker::Model;
 

@@ -6,18 +6,18 @@ ghost use Rattle.std.specs.List.{All, Contains};
 ghost use Rattle.std.specs.List.Sorted.{IsPartitionedBy};
 ghost use Rattle.std.specs.Option.{option_copied};
 ghost use Rattle.std.specs.Ordering.{nat_cmp};
-ghost use Rattle.collate_names.specs.Search.{IsPlaceOf, stands_before};
-ghost use Rattle.collate_hashes.specs.Hashes.{hash_of};
+ghost use Rattle.collate_lists.specs.Search.{IsPlaceOf, stands_before};
+ghost use Rattle.collate_lists.specs.Hashes.{hash_of};
 ghost use Rattle.collate_name_list.specs.StoredNames.{names_of};
-ghost use Rattle.collate_places.specs.Fronts.{IsFrontOf};
-ghost use Rattle.collate_places.specs.Windows.{shows};
+ghost use Rattle.collate_lists.specs.Fronts.{IsFrontOf};
+ghost use Rattle.collate_lists.specs.Windows.{shows};
 ghost use Rattle.collate_name_list.specs.Slots.{AreFronted, IsFull, IsSpan, compared, entries, entry_at, hashes_in, places_of, slots_by_key, sought_key};
 
-use collate_hashes::HashList;
+use collate_lists::hash_list::HashList;
 use collate_keys::IndexKey;
-use collate_places::PlaceList;
-use collate_places::fronts::Front;
-use collate_places::windows::{Placed, Window};
+use collate_lists::place_list::PlaceList;
+use collate_lists::fronts::Front;
+use collate_lists::windows::{Placed, Window};
 use std::cmp::Ordering;
 
 /// A name that is kept, with its key.

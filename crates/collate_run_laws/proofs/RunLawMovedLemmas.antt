@@ -20,8 +20,8 @@ use Rattle.collate_records.proofs.reordering.AcceptedMovedLemmas.{accepted_moved
 use Rattle.collate_rules.specs.Accepted.{AreAccepted}
 use Rattle.collate_rules.specs.Meaning.{collation_of, settings_of}
 use Rattle.collate_laws.proofs.FileLawLineOrderLemmas.{moved_settings, moved_unchanged}
-use Rattle.collate_names.specs.Names.{equal_names, in_order, is_equal, is_greater, is_less, names_between}
-use Rattle.collate_names.proofs.NameChangeLemmas.{in_order_alike}
+use Rattle.collate_lists.specs.Names.{equal_names, in_order, is_equal, is_greater, is_less, names_between}
+use Rattle.collate_lists.proofs.NameChangeLemmas.{in_order_alike}
 use Rattle.collate_index.specs.Catalogue.{Catalogue, meaning_in, options_in, order_of, preferences_of, sorted_names}
 use Rattle.collate_index.specs.Reloads.{AreKeysMade, AreTouched}
 use Rattle.collate_index.specs.declared.asked.Asked.{Asked}

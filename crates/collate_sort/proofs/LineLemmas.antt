@@ -20,8 +20,8 @@ use Rattle.collate_keyed_lines.specs.declared.direction.Direction.TheVariants.{A
 use Rattle.collate_keyed_lines.proofs.SlotLemmas.{turned_total}
 use Rattle.collate_lines.specs.Lines.{records_of}
 use Rattle.collate_lines.specs.declared.limits.Limits.{Limits}
-use Rattle.collate_names.specs.Names.{in_order}
-use Rattle.collate_names.proofs.NamesLemmas.{in_order_is_permutation, in_order_is_sorted, in_order_is_stable}
+use Rattle.collate_lists.specs.Names.{in_order}
+use Rattle.collate_lists.proofs.NamesLemmas.{in_order_is_permutation, in_order_is_sorted, in_order_is_stable}
 use Rattle.collate_rules.specs.Accepted.{AreAccepted}
 use Rattle.collate_rules.specs.Meaning.{collation_of}
 use Rattle.collate_sort.specs.Keys.{key_by_rule}

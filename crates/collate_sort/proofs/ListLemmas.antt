@@ -14,8 +14,8 @@ use Rattle.collate_keyed_lines.specs.declared.direction.Direction.{Direction}
 use Rattle.collate_keyed_lines.proofs.KeptLemmas.{none_then, sorted_all}
 use Rattle.collate_keyed_lines.proofs.MappedLemmas.{All-first, first_mapped, in_order_mapped, order_mapped, unordered_mapped}
 use Rattle.collate_keyed_lines.proofs.SlotLemmas.{map_alike}
-use Rattle.collate_names.specs.Names.{in_order}
-use Rattle.collate_names.proofs.NamesLemmas.{in_order_is_permutation}
+use Rattle.collate_lists.specs.Names.{in_order}
+use Rattle.collate_lists.proofs.NamesLemmas.{in_order_is_permutation}
 use Rattle.collate_sort.specs.Keys.{key_by_rule}
 use Rattle.collate_sort.specs.Listing.{Listing}
 use Rattle.collate_sort.specs.Lists.{IsKept, IsKeyed, listing_of, without_key}

@@ -8,7 +8,7 @@ use Rattle.icu_collator_types.specs.declared.options.ResolvedCollatorOptions.{Re
 use Rattle.collate_index.specs.Meaning.{meaning_of, order_by}
 use Rattle.collate_keyed_lines.specs.KeyedLines.{turned}
 use Rattle.collate_keyed_lines.specs.declared.direction.Direction.{Direction}
-use Rattle.collate_names.specs.Names.{TextOrder}
+use Rattle.collate_lists.specs.Names.{TextOrder}
 use Rattle.collate_records.specs.Files.{FileRecords}
 use Rattle.collate_rules.specs.Meaning.{settings_of}
 

@@ -11,7 +11,7 @@ ghost use Rattle.collate_keyed_lines.specs.KeyedLines.{turned};
 ghost use Rattle.collate_keyed_lines.specs.declared.direction.Direction.{Direction};
 ghost use Rattle.collate_lines.specs.Lines.{records_of};
 ghost use Rattle.collate_lines.specs.declared.limits.Limits.{Limits};
-ghost use Rattle.collate_names.specs.Names.{in_order};
+ghost use Rattle.collate_lists.specs.Names.{in_order};
 ghost use Rattle.collate_sort.specs.Orders.{Line, LineRule, line_order, rule_of};
 
 /// Over a file of plain leads lines compare as the file says of the characters of what is compared of them, turned round

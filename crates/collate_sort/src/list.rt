@@ -3,7 +3,7 @@
 ghost use Rattle.std.specs.Prelude.{◌≡◌, ◌==◌, ◌++◌, ◌∷◌, List, [], IfNone, IfSome, OnErr, OnOk, length, map, slice_get, unwrap_or};
 ghost use Rattle.std.specs.Option.{option_copied};
 ghost use Rattle.collate_keyed_lines.specs.KeyedLines.{AreInOrder, IsFirstUnordered, first_of_equals};
-ghost use Rattle.collate_names.specs.Names.{in_order};
+ghost use Rattle.collate_lists.specs.Names.{in_order};
 ghost use Rattle.collate_sort.specs.Keys.{key_by_rule};
 ghost use Rattle.collate_sort.specs.Listing.{Listing};
 ghost use Rattle.collate_sort.specs.Orders.{Line, line_order};

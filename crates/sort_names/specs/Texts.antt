@@ -5,7 +5,7 @@ use Rattle.hex.specs.Hex.{encode_lower}
 use Rattle.collate_columns.specs.LineParts.{part_of}
 use Rattle.collate_columns.specs.declared.part.LinePart.{LinePart}
 use Rattle.collate_keyed_lines.specs.KeyedLines.{first_of_equals}
-use Rattle.collate_names.specs.Names.{in_order}
+use Rattle.collate_lists.specs.Names.{in_order}
 use Rattle.collate_sort.specs.Keys.{key_by_rule}
 use Rattle.collate_sort.specs.Listing.{Listing}
 use Rattle.collate_sort.specs.Orders.{Line, LineRule, line_order}

@@ -2,8 +2,8 @@
 
 ghost use Rattle.std.specs.Prelude.{◌<◌};
 
-use collate_hashes::HashList;
-use collate_hashes::hashing::{FIXED_SEED, hash_of};
+use collate_lists::hash_list::HashList;
+use collate_lists::hashing::{FIXED_SEED, hash_of};
 use std::alloc::{AllocError, Global};
 use std::test::Fail;
 

@@ -5,7 +5,7 @@ use Rattle.icu_collator_types.specs.declared.options.Strength.TheVariants.{Prima
 use Rattle.icu_normalizer_core.specs.Decoding.{utf8_chars}
 use Rattle.tests_worked_rows.specs.Files.{Lines}
 use Rattle.tests_worked_rows.specs.Asked.{at_strength, order, list_of}
-use Rattle.collate_names.specs.Names.{equal_names}
+use Rattle.collate_lists.specs.Names.{equal_names}
 use Rattle.tests_worked_rows.specs.Letters.{letters}
 use Rattle.tests_worked_rows.proofs.WorkedComputing.{computing}
 

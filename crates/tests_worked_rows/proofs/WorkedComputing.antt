@@ -10,7 +10,7 @@ use Rattle.icu_collator.specs.Shifted.{counted_behind}
 use Rattle.icu_collator.specs.Levels.{backward_from, levels_of}
 use Rattle.icu_collator.specs.Order.{levels_order}
 use Rattle.collate_rules.specs.Meaning.{expanded}
-use Rattle.collate_names.specs.Names.{placed_before, in_order}
+use Rattle.collate_lists.specs.Names.{placed_before, in_order}
 
 unfoldable pub computing : Unit {0}
 unfolding pieces_from utf16_chars

@@ -21,7 +21,7 @@ use Rattle.icu_collator_types.specs.Options.{resolved_options}
 use Rattle.icu_collator.specs.Levels.{elements_of_text}
 use Rattle.icu_collator.specs.Order.{collation_order}
 use Rattle.tests_worked_rows.specs.Files.{Lines, meant}
-use Rattle.collate_names.specs.Names.{in_order}
+use Rattle.collate_lists.specs.Names.{in_order}
 
 -- the options and the preferences of a caller; what is None is not asked
 pub record Asked : Type 0 where

@@ -9,11 +9,11 @@ use Rattle.std.proofs.lemmas.List.{length-map}
 use Rattle.std.proofs.lemmas.List.Elements.{All-contains, All-same, All-push}
 use Rattle.std.proofs.lemmas.List.Sorted.{All-permutation}
 use Rattle.collate_rules.specs.Accepted.{AreAccepted}
-use Rattle.collate_names.specs.Names.{in_order}
-use Rattle.collate_names.specs.Search.{IsPlaceOf}
-use Rattle.collate_names.proofs.NameChangeLemmas.{in_order_alike, in_order_map}
-use Rattle.collate_names.proofs.NamesLemmas.{in_order_is_permutation, length-in_order}
-use Rattle.collate_names.proofs.NamePlaceLemmas.{place_alike, place_map}
+use Rattle.collate_lists.specs.Names.{in_order}
+use Rattle.collate_lists.specs.Search.{IsPlaceOf}
+use Rattle.collate_lists.proofs.NameChangeLemmas.{in_order_alike, in_order_map}
+use Rattle.collate_lists.proofs.NamesLemmas.{in_order_is_permutation, length-in_order}
+use Rattle.collate_lists.proofs.NamePlaceLemmas.{place_alike, place_map}
 use Rattle.collate_name_list.specs.StoredNames.{StoredName, key_order, names_of, sorted, without}
 use Rattle.collate_name_list.specs.declared.errors.AddError.{AddError}
 use Rattle.collate_index.specs.Catalogue.{Catalogue, meaning_in, order_of, sorted_names}

@@ -1,6 +1,6 @@
 use Rattle.std.proofs.Common.{ap, ◌∙◌, rules, sym}
 use Rattle.std.proofs.lemmas.Result.{on_ok_weaker}
-use Rattle.collate_names.specs.Names.{in_order}
+use Rattle.collate_lists.specs.Names.{in_order}
 use Rattle.collate_keyed_lines.specs.KeyedLines.{turned}
 use Rattle.collate_keyed_lines.specs.Slots.{slot_order}
 use Rattle.collate_keyed_lines.specs.declared.direction.Direction.{Direction}

@@ -1,7 +1,7 @@
 use Rattle.std.proofs.Common.{◌≡◌, ◌∙◌, ◌+◌, ◌-◌, ◌++◌, ◌∷◌, [], ◌<◌, List, Some, Bool, filter, length, slice_get, take, take_all, ap, arith, sym}
 use Rattle.std.proofs.lemmas.List.Elements.{filter_more}
 use Rattle.std.proofs.lemmas.Option.{get_or_from_slice_get}
-use Rattle.collate_places.specs.declared.windows.Placed.{Placed}
+use Rattle.collate_lists.specs.declared.windows.Placed.{Placed}
 use Rattle.collate_name_list.specs.Keys.{is_at_kept}
 use Rattle.collate_name_list.proofs.FrontedLemmas.{shown_at}
 use Rattle.collate_name_list.proofs.keys.kept_places.Goals as goal

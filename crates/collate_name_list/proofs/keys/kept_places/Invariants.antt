@@ -1,6 +1,6 @@
 use Rattle.std.proofs.Common.{◌≡◌, take}
 use Rattle.std.specs.List.{filter}
-use Rattle.collate_places.specs.Windows.{shows}
+use Rattle.collate_lists.specs.Windows.{shows}
 use Rattle.collate_name_list.specs.Keys.{is_at_kept}
 use Rattle.collate_name_list.proofs.keys.kept_places.Given as goal
 

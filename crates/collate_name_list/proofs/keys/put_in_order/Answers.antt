@@ -3,8 +3,8 @@ use Rattle.std.specs.List.{All, insert}
 use Rattle.std.specs.List.Sorted.{IsPartitionedBy}
 use Rattle.std.specs.Cmp.Lexicographic.{slice_cmp}
 use Rattle.std.specs.Ordering.{ordering_then}
-use Rattle.collate_names.specs.Search.{IsPlaceOf, stands_before}
-use Rattle.collate_places.specs.declared.windows.Placed.{Placed}
+use Rattle.collate_lists.specs.Search.{IsPlaceOf, stands_before}
+use Rattle.collate_lists.specs.declared.windows.Placed.{Placed}
 use Rattle.collate_name_list.specs.Slots.{AreFronted, IsFull, entry_at, entry_or_none, places_of}
 use Rattle.collate_name_list.specs.declared.slots.Stored.{Stored}
 use Rattle.collate_name_list.proofs.FrontedLemmas.{places-insert}

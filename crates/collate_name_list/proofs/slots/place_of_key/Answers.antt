@@ -2,7 +2,7 @@ use Rattle.std.proofs.Common.{[], sym, subst, nat_cmp}
 use Rattle.std.specs.List.{All}
 use Rattle.std.specs.List.Sorted.{IsPartitionedBy}
 use Rattle.std.specs.Cmp.Lexicographic.{slice_cmp}
-use Rattle.collate_names.specs.Search.{stands_before}
+use Rattle.collate_lists.specs.Search.{stands_before}
 use Rattle.collate_name_list.specs.StoredNames.{key_order}
 use Rattle.collate_name_list.specs.Slots.{IsFull, entry_at}
 use Rattle.collate_name_list.proofs.PlacesLemmas.{all_full, parted_slots, key_total}

@@ -1,8 +1,8 @@
 use Rattle.std.proofs.Common.{◌≡◌, ℕ, ◌+◌, ◌-◌, ◌/◌, Some, slice_get, get_or, arith, sym, ap, ◌∙◌}
 use Rattle.std.proofs.lemmas.Option.{get_or_from_slice_get}
-use Rattle.collate_names.specs.Search.{stands_before}
-use Rattle.collate_names.proofs.NameSearchLemmas.{narrowed_all, narrowed_few, narrowed_low, narrowed_high}
-use Rattle.collate_places.specs.Fronts.{IsFrontOf}
+use Rattle.collate_lists.specs.Search.{stands_before}
+use Rattle.collate_lists.proofs.NameSearchLemmas.{narrowed_all, narrowed_few, narrowed_low, narrowed_high}
+use Rattle.collate_lists.specs.Fronts.{IsFrontOf}
 use Rattle.collate_name_list.specs.Slots.{IsFull, compared, entry_at, places_of}
 use Rattle.collate_name_list.proofs.FrontedLemmas.{all_places, all_read, length_places, place_read, shown_at}
 use Rattle.collate_name_list.proofs.SpanLemmas.{narrowed_span}

@@ -1,6 +1,6 @@
 use Rattle.std.proofs.Common.{◌-◌, ◌≤◌}
-use Rattle.collate_names.proofs.NameSearchLemmas.{IsNarrowed}
-use Rattle.collate_places.specs.Windows.{shows}
+use Rattle.collate_lists.proofs.NameSearchLemmas.{IsNarrowed}
+use Rattle.collate_lists.specs.Windows.{shows}
 use Rattle.collate_name_list.specs.Slots.{compared, places_of}
 use Rattle.collate_name_list.proofs.slots.place_within.Given as goal
 

@@ -1,8 +1,8 @@
 use Rattle.std.proofs.Common.{◌≡◌, ℕ, ◌+◌, ◌-◌, ◌/◌, ◌<◌, false, true, length, Less, Equal, Greater, Some, slice_get, get_or, arith, sym, ap, ◌∙◌}
 use Rattle.std.proofs.lemmas.Option.{get_or_from_slice_get}
-use Rattle.collate_names.specs.Search.{stands_before, IsPlaceOf}
-use Rattle.collate_names.proofs.NameSearchLemmas.{high_falls, narrowed_all, narrowed_few, narrowed_low, narrowed_high}
-use Rattle.collate_places.specs.Fronts.{IsFrontOf}
+use Rattle.collate_lists.specs.Search.{stands_before, IsPlaceOf}
+use Rattle.collate_lists.proofs.NameSearchLemmas.{high_falls, narrowed_all, narrowed_few, narrowed_low, narrowed_high}
+use Rattle.collate_lists.specs.Fronts.{IsFrontOf}
 use Rattle.collate_name_list.specs.Slots.{IsFull, compared, entry_at, places_of}
 use Rattle.collate_name_list.proofs.FrontedLemmas.{all_places, all_read, length_places, place_read, shown_at}
 use Rattle.collate_name_list.proofs.SpanLemmas.{narrowed_span, span_past, span_whole}

@@ -1,8 +1,8 @@
 use Rattle.std.proofs.Common.{◌≡◌, ◌-◌, ◌<◌, ◌≤◌, false, true, length}
 use Rattle.std.specs.List.{AllWithin}
-use Rattle.collate_names.specs.Search.{stands_before}
-use Rattle.collate_names.proofs.NameSearchLemmas.{IsNarrowed}
-use Rattle.collate_places.specs.Windows.{shows}
+use Rattle.collate_lists.specs.Search.{stands_before}
+use Rattle.collate_lists.proofs.NameSearchLemmas.{IsNarrowed}
+use Rattle.collate_lists.specs.Windows.{shows}
 use Rattle.collate_name_list.specs.Slots.{compared, places_of}
 use Rattle.collate_name_list.proofs.slots.span_of.Given as goal
 

@@ -1,7 +1,7 @@
 use Rattle.std.proofs.Common.{◌≡◌, ℕ, ◌<◌, ◌≤◌, length, true, false, slice_range, arith, sym, ap, ◌∙◌, ⊎_elim}
 use Rattle.std.proofs.lemmas.Bool.{cases_lt}
-use Rattle.collate_names.specs.Search.{IsPlaceOf}
-use Rattle.collate_names.proofs.NameSearchLemmas.{between_none, between_part}
+use Rattle.collate_lists.specs.Search.{IsPlaceOf}
+use Rattle.collate_lists.proofs.NameSearchLemmas.{between_none, between_part}
 use Rattle.collate_name_list.specs.StoredNames.{sorted}
 use Rattle.collate_index.specs.Catalogue.{order_of, sorted_names}
 use Rattle.collate_index.proofs.search.IndexLemmas.{length_listed, placed}

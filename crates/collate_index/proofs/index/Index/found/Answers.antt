@@ -1,6 +1,6 @@
 use Rattle.std.proofs.Common.{◌≡◌, ℕ, ◌<◌, ◌≤◌, ◌^◌, length, true, false, arith, sym, ◌∙◌, subst}
-use Rattle.collate_names.specs.Search.{IsPlaceOf}
-use Rattle.collate_names.proofs.NameSearchLemmas.{equal_part}
+use Rattle.collate_lists.specs.Search.{IsPlaceOf}
+use Rattle.collate_lists.proofs.NameSearchLemmas.{equal_part}
 use Rattle.collate_name_list.specs.StoredNames.{sorted}
 use Rattle.collate_index.specs.Catalogue.{order_of, sorted_names}
 use Rattle.collate_index.proofs.search.IndexLemmas.{length_listed, placed}

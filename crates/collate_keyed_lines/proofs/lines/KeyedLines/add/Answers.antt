@@ -1,7 +1,7 @@
 use Rattle.std.proofs.Common.{◌++◌, ◌∷◌, [], ◌∙◌, List, ap, arith, subst, sym}
 use Rattle.std.specs.Prelude.{unwrap_or}
 use Rattle.std.specs.Option.{option_copied}
-use Rattle.collate_places.specs.Fronts.{IsFrontOf}
+use Rattle.collate_lists.specs.Fronts.{IsFrontOf}
 use Rattle.collate_keyed_lines.specs.KeyedLines.{KeyedLine}
 use Rattle.collate_keyed_lines.specs.Slots.{line_between}
 use Rattle.collate_keyed_lines.specs.declared.lines.KeyedLines.TheInside.{Inside}

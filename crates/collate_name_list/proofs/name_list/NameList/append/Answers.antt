@@ -1,9 +1,9 @@
 use Rattle.std.proofs.Common.{◌≡◌, ◌∙◌, ◌<◌, ◌^◌, ◌++◌, ◌∷◌, [], ℕ, List, ap, sym, subst, refl, true, true≢false, Option, Some, length, nat_cmp}
 use Rattle.std.specs.List.{Contains}
 use Rattle.std.specs.Cmp.Lexicographic.{slice_cmp}
-use Rattle.collate_names.specs.Search.{IsPlaceOf}
-use Rattle.collate_hashes.specs.Hashes.{hash_of}
-use Rattle.collate_places.specs.declared.windows.Placed.{Placed}
+use Rattle.collate_lists.specs.Search.{IsPlaceOf}
+use Rattle.collate_lists.specs.Hashes.{hash_of}
+use Rattle.collate_lists.specs.declared.windows.Placed.{Placed}
 use Rattle.collate_name_list.specs.StoredNames.{StoredName, names_of}
 use Rattle.collate_name_list.specs.Slots.{entry_at, entry_of, entries, hashes_in, names_inside, places_of}
 use Rattle.collate_name_list.specs.declared.slots.Stored.{Stored}

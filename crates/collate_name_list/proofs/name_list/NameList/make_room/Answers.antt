@@ -1,5 +1,5 @@
 use Rattle.std.proofs.Common.{◌∙◌, ap}
-use Rattle.collate_places.specs.Lists.{renumbered}
+use Rattle.collate_lists.specs.Lists.{renumbered}
 use Rattle.collate_name_list.specs.StoredNames.{key_order}
 use Rattle.collate_name_list.specs.Slots.{entries}
 use Rattle.collate_name_list.specs.Room.{numbers_from}

@@ -1,6 +1,6 @@
 use Rattle.std.proofs.Common.{◌≡◌, ◌∙◌, ◌<◌, ◌^◌, List, Option, true, false, ap, sym, subst, arith, length, nat_cmp}
 use Rattle.std.specs.Cmp.Lexicographic.{slice_cmp}
-use Rattle.collate_names.specs.Search.{IsPlaceOf}
+use Rattle.collate_lists.specs.Search.{IsPlaceOf}
 use Rattle.collate_name_list.specs.Slots.{AreFronted, places_of, slots_by_key, entry_at}
 use Rattle.collate_name_list.specs.declared.slots.Stored.{Stored}
 use Rattle.collate_name_list.proofs.KeptLemmas.{length_sorted, place_sorted}

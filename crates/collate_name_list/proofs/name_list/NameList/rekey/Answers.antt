@@ -1,6 +1,6 @@
 use Rattle.std.proofs.Common.{◌≡◌, ◌∙◌, List, Option, refl, sym, ap, length, is_some}
 use Rattle.std.specs.List.{filter}
-use Rattle.collate_places.specs.Lists.{renumbered}
+use Rattle.collate_lists.specs.Lists.{renumbered}
 use Rattle.collate_name_list.specs.StoredNames.{key_order, rekeyed}
 use Rattle.collate_name_list.specs.Slots.{IsKept, entries}
 use Rattle.collate_name_list.specs.Keys.{slots_with_keys}

@@ -1,0 +1,11 @@
+pub mod Names
+pub mod Insertion
+pub mod Search
+pub mod Starts
+pub mod Lists
+pub mod Fronts
+pub mod Parts
+pub mod Windows
+pub mod Chains
+pub mod Hashes
+pub mod Listed

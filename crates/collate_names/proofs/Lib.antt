@@ -1,4 +1,0 @@
-pub mod NameChangeLemmas
-pub mod NamesLemmas
-pub mod NamePlaceLemmas
-pub mod NameSearchLemmas
