@@ -11,5 +11,5 @@ pub mod laws;
 pub mod names;
 pub mod reload;
 
-pub use collate_keys::IndexKey;
 pub use collate_name_list::FIXED_SEED;
+pub use collate_name_list::index_key::IndexKey;

@@ -14,8 +14,8 @@ ghost use Rattle.collate_index.specs.declared.reload.ReloadError.TheVariants.{Me
 
 use crate::asked::Asked;
 use crate::changes::Changes;
-use collate_keys::IndexKey;
 use collate_lines::rule::{RecordFault, RecordsError};
+use collate_name_list::index_key::IndexKey;
 use collate_name_list::name_list::NameList;
 use collate_records::records::Records;
 use icu_collator::{Collator, CollatorBorrowed};

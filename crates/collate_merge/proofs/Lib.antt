@@ -1,3 +1,4 @@
+pub mod ColumnLemmas
 pub mod KeyLemmas
 pub mod LeastLemmas
 pub mod LeastSourceLemmas

@@ -1,8 +1,8 @@
 -- a source that reads its next line, and goes on to it
 use Rattle.std.proofs.Common.{◌≡◌, ℕ, suc, ◌+◌, Bool, true, false, Option, Some, List, [], ◌∷◌, length, refl, sym, ap, ◌∙◌, subst, arith}
 use Rattle.std.specs.Prelude.{IfSome, MatchBool}
-use Rattle.collate_columns.specs.LineParts.{part_of}
-use Rattle.collate_columns.specs.declared.part.LinePart.{LinePart}
+use Rattle.collate_merge.specs.LineParts.{part_of}
+use Rattle.collate_merge.specs.declared.part.LinePart.{LinePart}
 use Rattle.collate_keyed_lines.specs.KeyedLines.{turned}
 use Rattle.collate_keyed_lines.specs.declared.direction.Direction.{Direction}
 use Rattle.collate_lists.specs.Names.{is_greater}

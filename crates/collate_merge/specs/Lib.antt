@@ -1,5 +1,7 @@
+pub mod Columns
 pub mod KeyOrder
 pub mod Least
+pub mod LineParts
 pub mod Lines
 pub mod Merged
 pub mod Merges

@@ -2,8 +2,8 @@
 use Rattle.std.specs.Prelude.{◌≡◌, ℕ, ◌-◌, ◌<◌, Bool, false, Option, Some, List, [], ◌∷◌, ◌++◌, flat_map, length, map, slice_index_or, ⊤}
 use Rattle.std.specs.Io.KnownBytes.{Appends}
 use Rattle.std.specs.declared.cmp.Ordering.{Ordering}
-use Rattle.collate_columns.specs.LineParts.{part_of}
-use Rattle.collate_columns.specs.declared.part.LinePart.{LinePart}
+use Rattle.collate_merge.specs.LineParts.{part_of}
+use Rattle.collate_merge.specs.declared.part.LinePart.{LinePart}
 use Rattle.collate_keyed_lines.specs.KeyedLines.{AreInOrder, IsFirstUnordered}
 use Rattle.collate_sort.specs.Orders.{Line, LineRule, line_order}
 use Rattle.collate_merge.specs.Lines.{lines_in}

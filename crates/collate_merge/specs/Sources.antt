@@ -2,7 +2,7 @@
 use Rattle.std.specs.Prelude.{◌≡◌, ℕ, ◌+◌, ◌<◌, All, false, true, IfErr, MatchBool, Option, None, Some, Result, OnOk, List, [], ◌∷◌, length, slice_index_or, ⊤}
 use Rattle.std.specs.Io.KnownBytes.{Appends}
 use Rattle.std.specs.declared.cmp.Ordering.{Ordering}
-use Rattle.collate_columns.specs.LineParts.{part_of}
+use Rattle.collate_merge.specs.LineParts.{part_of}
 use Rattle.collate_keyed_lines.specs.KeyedLines.{turned}
 use Rattle.collate_keyed_lines.specs.declared.direction.Direction.{Direction}
 use Rattle.collate_lists.specs.Names.{is_greater}

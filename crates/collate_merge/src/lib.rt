@@ -1,10 +1,13 @@
-//! Readers of lines that are in order, merged. Begin with `merge::merge_lines`.
+//! Readers of lines that are in order, merged, by what columns hold of lines: whole fields, as `sort` counts them. Begin with
+//! `merge::merge_lines` and `column::Column`.
 #![tactic(auto)]
 
+pub mod column;
 mod compare;
 pub mod laws;
 pub mod lines;
 pub mod merge;
 mod output;
+pub mod part;
 mod sources;
 mod writing;

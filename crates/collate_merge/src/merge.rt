@@ -6,8 +6,8 @@ ghost use Rattle.collate_merge.specs.Merges.{GotFirstPart, HaveLeft, IsOrdered, 
 ghost use Rattle.collate_merge.specs.Sources.{AreLeft, Goes, HasLine, IsOutput, Merges};
 
 use crate::output::Output;
+use crate::part::LinePart;
 use crate::sources::{Source, least};
-use collate_columns::part::LinePart;
 use collate_sort::order::LineOrder;
 use std::alloc::Global;
 use std::io::{self, BufRead, Write};

@@ -9,7 +9,7 @@ ghost use Rattle.collate_merge.specs.Sources.{Advances, HasLeft, HasLine, IsBehi
 use crate::compare::is_above;
 use crate::lines::{LineReader, ReadLineError};
 use crate::merge::MergeError;
-use collate_columns::part::LinePart;
+use crate::part::LinePart;
 use collate_keyed_lines::direction::Direction;
 use collate_sort::order::LineOrder;
 use std::alloc::Global;

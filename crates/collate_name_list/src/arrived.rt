@@ -3,8 +3,8 @@
 ghost use Rattle.std.specs.Iterator.{YieldsFirstBy, item_count};
 ghost use Rattle.collate_name_list.specs.Slots.{lent_name};
 
+use crate::index_key::IndexKey;
 use crate::slots::Stored;
-use collate_keys::IndexKey;
 use std::marker::Model;
 
 /// The names of a list with their keys, as they arrived. A contract sees those that are left.

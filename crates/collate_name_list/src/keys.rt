@@ -4,8 +4,8 @@ ghost use Rattle.std.specs.Prelude.{◌≡◌, ◌+◌, ◌++◌, ◌<◌, ◌�
 ghost use Rattle.collate_name_list.specs.Keys.{has_kept, is_at_kept, key_before, keys_before, settled_by_key, slot_with_key, slots_with_keys};
 ghost use Rattle.collate_name_list.specs.Slots.{AreFronted, places_of, slots_by_key};
 
+use crate::index_key::IndexKey;
 use crate::slots::{Sought, Stored, place_of, placed_in, stored_in, window_around};
-use collate_keys::IndexKey;
 use collate_lists::place_list::PlaceList;
 use collate_lists::windows::Placed;
 use std::alloc::{AllocError, Global};

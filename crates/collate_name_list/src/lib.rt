@@ -4,6 +4,7 @@
 
 pub mod arrived;
 pub mod errors;
+pub mod index_key;
 mod keys;
 pub mod name_list;
 mod room;

@@ -10,13 +10,13 @@ ghost use Rattle.collate_name_list.specs.StoredNames.{AreDistinct, names_of, rek
 
 use crate::arrived::Arrived;
 use crate::errors::AddError;
+use crate::index_key::IndexKey;
 use crate::keys::reorder;
 use crate::room::{drop_empty, numbers_of};
 use crate::slots::{
     Stored, key_in, place_of_key, place_of_slot, range_of_key, slot_of_name, stored_in,
 };
 use collate_lists::hash_list::HashList;
-use collate_keys::IndexKey;
 use collate_lists::place_list::PlaceList;
 use collate_lists::windows::Placed;
 use std::alloc::{AllocError, Global};

@@ -13,10 +13,10 @@ ghost use Rattle.collate_lists.specs.Fronts.{IsFrontOf};
 ghost use Rattle.collate_lists.specs.Windows.{shows};
 ghost use Rattle.collate_name_list.specs.Slots.{AreFronted, IsFull, IsSpan, compared, entries, entry_at, hashes_in, places_of, slots_by_key, sought_key};
 
-use collate_lists::hash_list::HashList;
-use collate_keys::IndexKey;
-use collate_lists::place_list::PlaceList;
+use crate::index_key::IndexKey;
 use collate_lists::fronts::Front;
+use collate_lists::hash_list::HashList;
+use collate_lists::place_list::PlaceList;
 use collate_lists::windows::{Placed, Window};
 use std::cmp::Ordering;
 

@@ -2,8 +2,8 @@
 use Rattle.std.specs.Prelude.{◌==◌, ℕ, Bool, true, false, not, List, [], ◌∷◌, ◌++◌, flat_map, if◌then◌else◌, map}
 use Rattle.std.specs.List.{prefix_len}
 use Rattle.hex.specs.Hex.{encode_lower}
-use Rattle.collate_columns.specs.LineParts.{part_of}
-use Rattle.collate_columns.specs.declared.part.LinePart.{LinePart}
+use Rattle.collate_merge.specs.LineParts.{part_of}
+use Rattle.collate_merge.specs.declared.part.LinePart.{LinePart}
 use Rattle.collate_keyed_lines.specs.KeyedLines.{first_of_equals}
 use Rattle.collate_lists.specs.Names.{in_order}
 use Rattle.collate_sort.specs.Keys.{key_by_rule}

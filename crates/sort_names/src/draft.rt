@@ -5,7 +5,7 @@ use crate::flags::{Setting, Switch, is_option_name};
 use crate::request::{OrderChoice, Request, Shape, Source, Task};
 use crate::word_faults::WordFault;
 use collate_choice::Choice;
-use collate_columns::column::Column;
+use collate_merge::column::Column;
 use collate_sort::Direction;
 use icu_collator_types::options::{CollatorOptions, CollatorPreferences};
 use std::alloc::{AllocError, Global};

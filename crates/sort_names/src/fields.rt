@@ -1,6 +1,6 @@
 //! The values of `-k`, `-t` and `-S`.
 
-use collate_columns::column::{Column, Separator};
+use collate_merge::column::{Column, Separator};
 
 /// Whole fields of a line, as `-k` gives them.
 #[derive(Clone, Copy, Debug, PartialEq, Eq)]

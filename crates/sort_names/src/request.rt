@@ -3,8 +3,8 @@
 ghost use Rattle.std.specs.Prelude.{◌≡◌};
 ghost use Rattle.sort_names.specs.Texts.{part_in};
 
-use collate_columns::column::Column;
-use collate_columns::part::LinePart;
+use collate_merge::column::Column;
+use collate_merge::part::LinePart;
 use collate_sort::Direction;
 use icu_collator_types::options::{CollatorOptions, CollatorPreferences};
 

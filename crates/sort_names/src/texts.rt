@@ -6,7 +6,7 @@ ghost use Rattle.std.specs.Option.{option_copied};
 ghost use Rattle.sort_names.specs.Texts.{compared, line_len, listed};
 
 use crate::request::Shape;
-use collate_columns::column::Column;
+use collate_merge::column::Column;
 use collate_sort::list::LineList;
 use std::alloc::AllocError;
 

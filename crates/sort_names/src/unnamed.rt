@@ -3,7 +3,7 @@
 use crate::request::Shape;
 use crate::shown::Character;
 use crate::texts::compared;
-use collate_columns::part::without_cr;
+use collate_merge::part::without_cr;
 use collate_sort::list::LineList;
 use collate_sort::order::LineOrder;
 use icu_normalizer_core::decoding::decode_utf8;

@@ -2,9 +2,9 @@
 
 use crate::failing::{FailingReader, FailingWriter, Failure};
 use crate::letters::order_of;
-use collate_columns::column::{Column, Separator};
-use collate_columns::part::LinePart;
+use collate_merge::column::{Column, Separator};
 use collate_merge::merge::{MergeError, merge_lines};
+use collate_merge::part::LinePart;
 use collate_sort::Direction;
 use std::alloc::Global;
 use std::io::{BufReader, ErrorKind};

@@ -1,8 +1,8 @@
 -- one field more, and lines with none left
 use Rattle.std.proofs.Common.{◌≡◌, ℕ, zero, suc, ◌+◌, ◌-◌, ◌<◌, List, [], ◌∷◌, length, refl, sym, ap, ◌∙◌, arith}
-use Rattle.collate_columns.specs.Columns.{behind_field, behind_fields, field_len, fields_end}
-use Rattle.collate_columns.specs.declared.column.Separator.{Separator}
-use Rattle.collate_columns.specs.declared.column.Separator.TheVariants.{Blanks, Byte}
+use Rattle.collate_merge.specs.Columns.{behind_field, behind_fields, field_len, fields_end}
+use Rattle.collate_merge.specs.declared.column.Separator.{Separator}
+use Rattle.collate_merge.specs.declared.column.Separator.TheVariants.{Blanks, Byte}
 
 pub behind_zero : (separator : Separator) (n : ℕ) (line : List ℕ) → n ≡ 0 → behind_fields separator n line ≡ line
 unfolding behind_fields

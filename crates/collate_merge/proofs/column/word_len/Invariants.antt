@@ -1,7 +1,7 @@
 use Rattle.std.proofs.Common.{◌≡◌, ◌+◌, length, not}
 use Rattle.std.specs.List.{prefix_len}
-use Rattle.collate_columns.specs.Columns.{is_blank}
-use Rattle.collate_columns.proofs.column.word_len.Given as goal
+use Rattle.collate_merge.specs.Columns.{is_blank}
+use Rattle.collate_merge.proofs.column.word_len.Given as goal
 
 abbrev pub invariant-loop-byte : goal.invariant-loop-byte
 invariant-loop-byte l = record {

@@ -2,7 +2,7 @@
 
 ghost use Rattle.std.specs.Prelude.{◌≡◌, ◌≤◌, ◌==◌, length, not};
 ghost use Rattle.std.specs.List.{prefix_len};
-ghost use Rattle.collate_columns.specs.Columns.{behind_field, behind_fields, column_of, field_len, fields_end, is_blank};
+ghost use Rattle.collate_merge.specs.Columns.{behind_field, behind_fields, column_of, field_len, fields_end, is_blank};
 
 /// What stands between the fields of a line.
 #[derive(Clone, Copy, Debug, PartialEq, Eq)]

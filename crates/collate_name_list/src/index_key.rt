@@ -1,5 +1,4 @@
 //! Keys of names: the bytes of a sort key, made once for a name and only ever compared. Begin with `IndexKey::make`.
-#![tactic(auto)]
 
 ghost use Rattle.std.specs.Prelude.{◌≡◌, ◌+◌, min, IfOk, OnErr, OnOk};
 ghost use Rattle.std.specs.Cmp.Lexicographic.{slice_cmp};

@@ -2,10 +2,10 @@
 -- the next; where a byte does, what stands between two of these, and the first and the last field are what stands outside.
 use Rattle.std.specs.Prelude.{◌==◌, ◌||◌, ℕ, zero, suc, ◌+◌, ◌-◌, Bool, List, Option, Some, None, drop, length, not, take}
 use Rattle.std.specs.List.{prefix_len}
-use Rattle.collate_columns.specs.declared.column.Column.{Column}
-use Rattle.collate_columns.specs.declared.column.Column.TheVariants.{Fields, Line}
-use Rattle.collate_columns.specs.declared.column.Separator.{Separator}
-use Rattle.collate_columns.specs.declared.column.Separator.TheVariants.{Blanks, Byte}
+use Rattle.collate_merge.specs.declared.column.Column.{Column}
+use Rattle.collate_merge.specs.declared.column.Column.TheVariants.{Fields, Line}
+use Rattle.collate_merge.specs.declared.column.Separator.{Separator}
+use Rattle.collate_merge.specs.declared.column.Separator.TheVariants.{Blanks, Byte}
 
 -- a space, a tab or a line feed
 abbrev pub is_blank : ℕ → Bool

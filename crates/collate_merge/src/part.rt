@@ -2,7 +2,7 @@
 
 ghost use Rattle.std.specs.Prelude.{◌≡◌};
 ghost use Rattle.std.specs.Io.BufRead.{strip_last};
-ghost use Rattle.collate_columns.specs.LineParts.{part_of};
+ghost use Rattle.collate_merge.specs.LineParts.{part_of};
 
 use crate::column::Column;
 

@@ -1,6 +1,6 @@
 use Rattle.std.proofs.Common.{◌≡◌, ◌+◌, ◌==◌, length, not}
 use Rattle.std.specs.List.{prefix_len}
-use Rattle.collate_columns.proofs.column.len_before.Given as goal
+use Rattle.collate_merge.proofs.column.len_before.Given as goal
 
 abbrev pub invariant-loop-byte : goal.invariant-loop-byte
 invariant-loop-byte l = record {

@@ -1,6 +1,6 @@
 use Rattle.std.proofs.Common.{◌≡◌, ◌≤◌, length}
-use Rattle.collate_columns.specs.Columns.{behind_fields}
-use Rattle.collate_columns.proofs.column.past_fields.Given as goal
+use Rattle.collate_merge.specs.Columns.{behind_fields}
+use Rattle.collate_merge.proofs.column.past_fields.Given as goal
 
 abbrev pub invariant-loop-left : goal.invariant-loop-left
 invariant-loop-left l = record {
