@@ -179,9 +179,9 @@ walk_foreign_executable() {
     put $sorting/sort_names.unproved
     says 0 "sort_names: unproved: $nothing" $'a\nb' -- given 'b\na\n' ./sort_names --unproved --records $latin
     says 2 "no 'rt' on the path to build sort_names with" -- ./sort_names --records $latin
-    echo '// one more line' >>crates/collate_names/src/lib.rt
+    echo '// one more line' >>crates/collate_lists/src/lib.rt
     says 1 "$nothing" "no 'rt' on the path" -- ./collate --unproved $latin
-    sed -i '$d' crates/collate_names/src/lib.rt
+    sed -i '$d' crates/collate_lists/src/lib.rt
     says 0 "$nothing" "added" -- given 'add a\n' ./collate --unproved $latin
     rm -r $out
 }
@@ -202,9 +202,9 @@ walk_with_executable() {
     echo 'fn main(rt: HostRuntime) {}' >crates/own/src/main.rt
     echo 'own: collate_index' >>crates.txt
     says 0 added -- given 'add a\n' ./collate $latin
-    echo '// one more line' >>crates/collate_names/src/lib.rt
+    echo '// one more line' >>crates/collate_lists/src/lib.rt
     says 1 "no 'rt' on the path" -- ./collate $latin
-    sed -i '$d' crates/collate_names/src/lib.rt
+    sed -i '$d' crates/collate_lists/src/lib.rt
     sed -i '$d' crates.txt
     rm -r crates/own
     says 0 added -- given 'add a\n' ./collate $latin
@@ -367,7 +367,7 @@ for name in \$("$top/tools/below.sh" "\$crate" | sed 's/:.*//'); do
     mkdir -p "$top/crates/\$name/out/rlib"
     [ -e "$top/crates/\$name/out/rlib/stamp" ] || { sleep 0.1; echo >"$top/crates/\$name/out/rlib/stamp"; }
 done
-[ ! -e "$work/edits" ] || echo '// while it is built' >>"$top/crates/collate_names/src/lib.rt"
+[ ! -e "$work/edits" ] || echo '// while it is built' >>"$top/crates/collate_lists/src/lib.rt"
 case \$crate in
 collate) cp "${executable[collate]}" out/collate ;;
 collate_unicode) cp "${executable[collate_unicode]}" out/collate_unicode ;;
@@ -410,7 +410,7 @@ walk_with_stand_in() {
     says 0 "$nothing" "in a minute or two" "kept as $out/collate.unproved" added -- \
         given 'add a\n' ./collate --unproved $latin
     says 0 "$nothing" '!in a minute' added -- given 'add a\n' ./collate --unproved $latin
-    echo '// one more' >>crates/collate_names/src/lib.rt
+    echo '// one more' >>crates/collate_lists/src/lib.rt
     says 0 "$nothing" "in a minute or two" added -- given 'add a\n' ./collate --unproved $latin
     cp "$work/builder" tools/build_unproved.sh
     PATH=/usr/bin:/bin

@@ -109,7 +109,7 @@ def reduced(rows):
 
 def fixed():
     """The point and the prime of the hash of a name, where no seed is chosen."""
-    with open(os.path.join(ROOT, 'crates/collate_hashes/src/hashing.rt'), encoding='utf-8') as file:
+    with open(os.path.join(ROOT, 'crates/collate_lists/src/hashing.rt'), encoding='utf-8') as file:
         text = file.read()
     prime, seed = (int(re.search(fr'{name}: u64 = ([0-9_]+);', text).group(1)) for name in ('PRIME', 'FIXED_SEED'))
     return seed % prime, prime

@@ -1,6 +1,7 @@
 //! Proved callers of the library crates, one file a subject: each function is a call as a user
 //! would write it, with what its contract lets the user say. `docs/CALLING.md` quotes them.
-//! They are read with their tests alone, so that each is proved once.
+//! They are read with their tests alone, so that each is proved once. Worked examples of the collation order stand in
+//! `proofs`: closed terms that the checker computes.
 #![tactic(auto)]
 
 #[cfg(test)]

@@ -1,5 +1,5 @@
-//! Tests of the program `collate` below its `main`, by public calls. They stand here so that the index and the run are
-//! proved once.
+//! Tests of the program `collate` below its `main`, and of the lists below its index, by public calls. They stand here so
+//! that the crates below are proved once.
 #![tactic(auto)]
 
 #[cfg(test)]
@@ -9,6 +9,8 @@ mod commands;
 #[cfg(test)]
 mod failing;
 #[cfg(test)]
+mod hashes;
+#[cfg(test)]
 mod limits;
 #[cfg(test)]
 mod names;
@@ -16,6 +18,8 @@ mod names;
 mod option_words;
 #[cfg(test)]
 mod over;
+#[cfg(test)]
+mod places;
 #[cfg(test)]
 mod reloads;
 #[cfg(test)]

@@ -1,6 +1,9 @@
-//! Tests of collation tables and elements, by public calls. They stand here so that the crate below is proved once.
+//! Tests of collation tables and elements, of options and of the words of elements, by public calls. They stand here so that
+//! the crates below are proved once.
 #![tactic(auto)]
 
+#[cfg(test)]
+mod bit_field;
 #[cfg(test)]
 mod context_refusals;
 #[cfg(test)]
@@ -20,6 +23,8 @@ mod other_refusals;
 #[cfg(test)]
 mod refusals;
 #[cfg(test)]
+mod resolved;
+#[cfg(test)]
 mod settings;
 #[cfg(test)]
 mod shared_nodes;
@@ -27,3 +32,5 @@ mod shared_nodes;
 mod tables;
 #[cfg(test)]
 mod weight_rules;
+#[cfg(test)]
+mod word_calls;

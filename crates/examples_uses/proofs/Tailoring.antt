@@ -3,10 +3,10 @@ use Rattle.std.specs.Prelude.{◌≡◌, [], ◌∷◌, ◌++◌, refl, codes}
 use Rattle.std.specs.declared.cmp.Ordering.TheVariants.{Less, Equal, Greater}
 use Rattle.icu_collator_types.specs.declared.options.Strength.TheVariants.{Primary, Tertiary}
 use Rattle.icu_collator_core.specs.Defaults.{primary_element}
-use Rattle.tests_worked_rows.specs.Files.{Lines}
-use Rattle.tests_worked_rows.specs.Asked.{at_strength, order, elements}
-use Rattle.tests_worked_rows.specs.Letters.{letters, with_c_behind_ab}
-use Rattle.tests_worked_rows.proofs.WorkedComputing.{computing}
+use Rattle.examples_uses.specs.Files.{Lines}
+use Rattle.examples_uses.specs.Asked.{at_strength, order, elements}
+use Rattle.examples_uses.specs.Letters.{letters, with_c_behind_ab}
+use Rattle.examples_uses.proofs.WorkedComputing.{computing}
 
 -- "a" moved between "e" and "h"
 abbrev with_a_moved : Lines

@@ -2,10 +2,10 @@
 use Rattle.std.specs.Prelude.{◌≡◌, [], ◌∷◌, ◌++◌, refl, codes}
 use Rattle.std.specs.declared.cmp.Ordering.TheVariants.{Less, Equal, Greater}
 use Rattle.icu_collator_types.specs.declared.options.Strength.TheVariants.{Primary, Tertiary}
-use Rattle.tests_worked_rows.specs.Files.{Lines}
-use Rattle.tests_worked_rows.specs.Asked.{at_strength, order}
-use Rattle.tests_worked_rows.specs.Letters.{letters}
-use Rattle.tests_worked_rows.proofs.WorkedComputing.{computing}
+use Rattle.examples_uses.specs.Files.{Lines}
+use Rattle.examples_uses.specs.Asked.{at_strength, order}
+use Rattle.examples_uses.specs.Letters.{letters}
+use Rattle.examples_uses.proofs.WorkedComputing.{computing}
 
 -- "abc" behind all single letters
 abbrev with_abc : Lines

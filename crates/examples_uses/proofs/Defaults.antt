@@ -3,9 +3,9 @@ use Rattle.std.specs.Prelude.{◌≡◌, [], ◌∷◌, refl, codes}
 use Rattle.std.specs.declared.cmp.Ordering.TheVariants.{Less, Equal}
 use Rattle.icu_collator_types.specs.declared.options.Strength.TheVariants.{Primary, Identical}
 use Rattle.icu_collator_core.specs.Defaults.{primary_element}
-use Rattle.tests_worked_rows.specs.Asked.{at_strength, order, elements}
-use Rattle.tests_worked_rows.specs.Letters.{letters, with_ideographs}
-use Rattle.tests_worked_rows.proofs.WorkedComputing.{computing}
+use Rattle.examples_uses.specs.Asked.{at_strength, order, elements}
+use Rattle.examples_uses.specs.Letters.{letters, with_ideographs}
+use Rattle.examples_uses.proofs.WorkedComputing.{computing}
 
 -- U+FFFE is below all other characters, so an earlier one is below a later one.
 pub earlier_end_is_below_later :

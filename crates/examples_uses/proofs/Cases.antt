@@ -4,10 +4,10 @@ use Rattle.std.specs.declared.cmp.Ordering.TheVariants.{Less, Equal, Greater}
 use Rattle.icu_collator_types.specs.declared.options.Strength.TheVariants.{Primary, Secondary, Tertiary}
 use Rattle.icu_collator_types.specs.declared.options.CaseLevel.TheVariants.{On}
 use Rattle.icu_collator_types.specs.declared.options.CollationCaseFirst.TheVariants.{Lower, Upper}
-use Rattle.tests_worked_rows.specs.Files.{Lines, without}
-use Rattle.tests_worked_rows.specs.Asked.{Asked, at_strength, accents_then_upper_first, order}
-use Rattle.tests_worked_rows.specs.Letters.{letters, with_upper_a}
-use Rattle.tests_worked_rows.proofs.WorkedComputing.{computing}
+use Rattle.examples_uses.specs.Files.{Lines, without}
+use Rattle.examples_uses.specs.Asked.{Asked, at_strength, accents_then_upper_first, order}
+use Rattle.examples_uses.specs.Letters.{letters, with_upper_a}
+use Rattle.examples_uses.proofs.WorkedComputing.{computing}
 
 -- Upper case is below lower case, in the fourteenth place too.
 pub upper_in_fourteenth_place_is_first :

@@ -4,8 +4,8 @@ use Rattle.std.specs.Ordering.{nat_cmp}
 use Rattle.std.specs.Cmp.Lexicographic.{slice_cmp}
 use Rattle.std.specs.declared.cmp.Ordering.{Ordering}
 use Rattle.icu_collator.specs.KeyBytes.{key_of_text}
-use Rattle.tests_worked_rows.specs.Files.{Lines, meant}
-use Rattle.tests_worked_rows.specs.Asked.{Asked, options_of}
+use Rattle.examples_uses.specs.Files.{Lines, meant}
+use Rattle.examples_uses.specs.Asked.{Asked, options_of}
 
 -- the key of a text, given as characters
 abbrev pub key : Lines → Asked → List ℕ → List ℕ

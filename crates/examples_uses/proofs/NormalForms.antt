@@ -2,9 +2,9 @@
 use Rattle.std.specs.Prelude.{◌≡◌, [], ◌∷◌, ◌++◌, Some, None, refl, codes}
 use Rattle.icu_normalizer_core.specs.Canonical.{decomposed, composed}
 use Rattle.icu_normalizer_core.specs.Decoding.{utf8_chars}
-use Rattle.tests_worked_rows.specs.Files.{Lines, meant}
-use Rattle.tests_worked_rows.specs.Letters.{letters}
-use Rattle.tests_worked_rows.proofs.WorkedComputing.{computing}
+use Rattle.examples_uses.specs.Files.{Lines, meant}
+use Rattle.examples_uses.specs.Letters.{letters}
+use Rattle.examples_uses.proofs.WorkedComputing.{computing}
 
 -- The dot below stands before the acute, so it is the one that composes with "a".
 pub dot_below_composes_first : composed (meant letters).canonical (codes "ạ́") ≡ codes "ạ́"

@@ -1,7 +1,7 @@
 //! Places with their fronts are put in, taken out and lent in parts, few and many.
 
-use collate_lists::place_list::PlaceList;
 use collate_lists::fronts::Front;
+use collate_lists::place_list::PlaceList;
 use collate_lists::windows::Placed;
 use std::alloc::{AllocError, Global};
 use std::cmp::Ordering;

@@ -1,6 +1,6 @@
 -- A file of eight letters and three accents, and the files with more lines that orders and keys share.
 use Rattle.std.specs.Prelude.{[], ◌∷◌, ◌++◌, codes}
-use Rattle.tests_worked_rows.specs.Files.{Lines}
+use Rattle.examples_uses.specs.Files.{Lines}
 
 -- the letters a, b, c, e, h, l, o and t, with an acute, a circumflex and a dot below
 abbrev pub letters : Lines

@@ -3,9 +3,9 @@ use Rattle.std.specs.Prelude.{◌≡◌, [], ◌∷◌, ◌++◌, replicate, ref
 use Rattle.std.specs.declared.cmp.Ordering.TheVariants.{Less, Equal, Greater}
 use Rattle.icu_collator_types.specs.declared.options.Strength.TheVariants.{Primary, Tertiary, Quaternary, Identical}
 use Rattle.icu_collator_core.specs.Defaults.{primary_element}
-use Rattle.tests_worked_rows.specs.Asked.{at_strength, by_value, order, elements, list_of}
-use Rattle.tests_worked_rows.specs.Letters.{with_digits}
-use Rattle.tests_worked_rows.proofs.WorkedComputing.{computing}
+use Rattle.examples_uses.specs.Asked.{at_strength, by_value, order, elements, list_of}
+use Rattle.examples_uses.specs.Letters.{with_digits}
+use Rattle.examples_uses.proofs.WorkedComputing.{computing}
 
 -- Digit by digit 2 is above 1.
 pub a2_is_above_a10 : order with_digits (at_strength Tertiary) (codes "a2") (codes "a10") ≡ Greater

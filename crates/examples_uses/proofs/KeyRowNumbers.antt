@@ -2,10 +2,10 @@
 use Rattle.std.specs.Prelude.{◌≡◌, ℕ, List, ◌∷◌, ◌++◌, replicate, refl, codes}
 use Rattle.std.specs.declared.cmp.Ordering.TheVariants.{Greater}
 use Rattle.icu_collator_types.specs.declared.options.Strength.TheVariants.{Primary}
-use Rattle.tests_worked_rows.specs.Asked.{by_value}
-use Rattle.tests_worked_rows.specs.Letters.{with_digits}
-use Rattle.tests_worked_rows.specs.Keys.{key, hex, bytes_order}
-use Rattle.tests_worked_rows.proofs.KeyRowComputing.{computing}
+use Rattle.examples_uses.specs.Asked.{by_value}
+use Rattle.examples_uses.specs.Letters.{with_digits}
+use Rattle.examples_uses.specs.Keys.{key, hex, bytes_order}
+use Rattle.examples_uses.proofs.KeyRowComputing.{computing}
 
 -- the key of a text at Primary, with numbers by value
 abbrev number_key : List ℕ → List ℕ

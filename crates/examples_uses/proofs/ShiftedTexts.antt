@@ -3,10 +3,10 @@ use Rattle.std.specs.Prelude.{◌≡◌, [], ◌∷◌, ◌++◌, Some, refl, co
 use Rattle.std.specs.declared.cmp.Ordering.TheVariants.{Less, Equal}
 use Rattle.icu_collator_types.specs.declared.options.Strength.TheVariants.{Tertiary, Quaternary}
 use Rattle.icu_collator_types.specs.declared.options.MaxVariable.TheVariants.{Space}
-use Rattle.tests_worked_rows.specs.Files.{without}
-use Rattle.tests_worked_rows.specs.Asked.{shifted_at, order}
-use Rattle.tests_worked_rows.specs.Letters.{with_punctuation}
-use Rattle.tests_worked_rows.proofs.WorkedComputing.{computing}
+use Rattle.examples_uses.specs.Files.{without}
+use Rattle.examples_uses.specs.Asked.{shifted_at, order}
+use Rattle.examples_uses.specs.Letters.{with_punctuation}
+use Rattle.examples_uses.proofs.WorkedComputing.{computing}
 
 -- A space counts for nothing up to the tertiary level.
 pub a_space_c_is_ac : order with_punctuation (shifted_at Tertiary) (codes "a c") (codes "ac") ≡ Equal

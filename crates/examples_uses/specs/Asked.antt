@@ -20,7 +20,7 @@ use Rattle.icu_collator_types.specs.declared.elements.Element.{Element}
 use Rattle.icu_collator_types.specs.Options.{resolved_options}
 use Rattle.icu_collator.specs.Levels.{elements_of_text}
 use Rattle.icu_collator.specs.Order.{collation_order}
-use Rattle.tests_worked_rows.specs.Files.{Lines, meant}
+use Rattle.examples_uses.specs.Files.{Lines, meant}
 use Rattle.collate_lists.specs.Names.{in_order}
 
 -- the options and the preferences of a caller; what is None is not asked

@@ -3,9 +3,9 @@ use Rattle.std.specs.Prelude.{◌≡◌, [], ◌∷◌, replicate, refl}
 use Rattle.std.specs.declared.cmp.Ordering.TheVariants.{Equal, Greater}
 use Rattle.icu_collator_types.specs.declared.options.Strength.TheVariants.{Primary, Identical}
 use Rattle.icu_normalizer_core.specs.Decoding.{utf8_chars, utf16_chars, latin1_chars}
-use Rattle.tests_worked_rows.specs.Asked.{at_strength, order}
-use Rattle.tests_worked_rows.specs.Letters.{letters}
-use Rattle.tests_worked_rows.proofs.WorkedComputing.{computing}
+use Rattle.examples_uses.specs.Asked.{at_strength, order}
+use Rattle.examples_uses.specs.Letters.{letters}
+use Rattle.examples_uses.proofs.WorkedComputing.{computing}
 
 -- A byte that begins no character reads as U+FFFD.
 pub stray_byte_is_replaced :

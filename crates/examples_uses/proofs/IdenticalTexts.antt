@@ -2,10 +2,10 @@
 use Rattle.std.specs.Prelude.{◌≡◌, [], ◌∷◌, ◌++◌, refl, codes}
 use Rattle.std.specs.declared.cmp.Ordering.TheVariants.{Less, Equal}
 use Rattle.icu_collator_types.specs.declared.options.Strength.TheVariants.{Identical}
-use Rattle.tests_worked_rows.specs.Files.{Lines, without}
-use Rattle.tests_worked_rows.specs.Asked.{at_strength, order}
-use Rattle.tests_worked_rows.specs.Letters.{letters}
-use Rattle.tests_worked_rows.proofs.WorkedComputing.{computing}
+use Rattle.examples_uses.specs.Files.{Lines, without}
+use Rattle.examples_uses.specs.Asked.{at_strength, order}
+use Rattle.examples_uses.specs.Letters.{letters}
+use Rattle.examples_uses.proofs.WorkedComputing.{computing}
 
 -- An accent of its own is as good as one composed with its letter.
 pub a_acute_is_composed : order letters (at_strength Identical) (codes "á") (codes "á") ≡ Equal

@@ -6,7 +6,7 @@ use Rattle.icu_collator_core.specs.Collation.{reordered_lead}
 use Rattle.icu_collator_core.proofs.weights.ReorderingLemmas.{given_lead, given_rest}
 use Rattle.icu_collator_core.specs.WeightRules.{AreSoundWeights, IsRecorded, is_letter_lead}
 use Rattle.icu_collator.specs.Settings.{AreSoundSettings}
-use Rattle.tests_worked_rows.specs.Files.{meant}
+use Rattle.examples_uses.specs.Files.{meant}
 
 nothing_recorded : (e : Element) → IsRecorded (meant []).weights e → ⊥
 nothing_recorded e is = let never : ◌≡◌ {A = Option (List Element)} None (Some (is.2)) = is.3 in cc

@@ -5,10 +5,10 @@ use Rattle.icu_collator_types.specs.declared.options.Strength.TheVariants.{Prima
 use Rattle.icu_collator_core.specs.Defaults.{primary_element}
 use Rattle.collate_lines.specs.Lines.{records_of}
 use Rattle.collate_rules.specs.Meaning.{compatibility_of}
-use Rattle.tests_worked_rows.specs.Files.{file}
-use Rattle.tests_worked_rows.specs.Asked.{at_strength, order, elements}
-use Rattle.tests_worked_rows.specs.Letters.{letters, with_ideographs}
-use Rattle.tests_worked_rows.proofs.WorkedComputing.{computing}
+use Rattle.examples_uses.specs.Files.{file}
+use Rattle.examples_uses.specs.Asked.{at_strength, order, elements}
+use Rattle.examples_uses.specs.Letters.{letters, with_ideographs}
+use Rattle.examples_uses.proofs.WorkedComputing.{computing}
 
 -- Each line is one record.
 pub lines_of_the_letters : length (records_of (file letters)) ≡ 15

@@ -5,10 +5,10 @@ use Rattle.icu_collator_types.specs.declared.options.AlternateHandling.TheVarian
 use Rattle.icu_collator_types.specs.declared.options.CollationCaseFirst.TheVariants.{Lower}
 use Rattle.icu_collator_types.specs.declared.options.Strength.TheVariants.{Primary, Tertiary, Quaternary, Identical}
 use Rattle.icu_collator_core.specs.Defaults.{primary_element}
-use Rattle.tests_worked_rows.specs.Files.{Lines}
-use Rattle.tests_worked_rows.specs.Asked.{at_strength, by_value, shifted_at, order, elements}
-use Rattle.tests_worked_rows.specs.Letters.{letters, with_digits, with_punctuation, with_stops}
-use Rattle.tests_worked_rows.proofs.WorkedComputing.{computing}
+use Rattle.examples_uses.specs.Files.{Lines}
+use Rattle.examples_uses.specs.Asked.{at_strength, by_value, shifted_at, order, elements}
+use Rattle.examples_uses.specs.Letters.{letters, with_digits, with_punctuation, with_stops}
+use Rattle.examples_uses.proofs.WorkedComputing.{computing}
 
 pub a_is_below_t : order letters (at_strength Primary) (codes "a") (codes "t") ≡ Less
 unfolding computing

@@ -4,10 +4,10 @@ use Rattle.std.specs.List.{flat_map}
 use Rattle.std.specs.declared.cmp.Ordering.TheVariants.{Less}
 use Rattle.icu_normalizer_core.specs.Decoding.{utf8_chars}
 use Rattle.icu_collator_types.specs.declared.options.Strength.TheVariants.{Primary, Secondary, Tertiary, Quaternary, Identical}
-use Rattle.tests_worked_rows.specs.Asked.{at_strength, by_value, shifted_at, accents_then_upper_first}
-use Rattle.tests_worked_rows.specs.Letters.{letters, with_upper_a, with_digits, with_punctuation, with_ideographs, with_e_behind_abc, with_two_prefixes}
-use Rattle.tests_worked_rows.specs.Keys.{key, hex, last_bytes, bytes_order}
-use Rattle.tests_worked_rows.proofs.KeyRowComputing.{computing}
+use Rattle.examples_uses.specs.Asked.{at_strength, by_value, shifted_at, accents_then_upper_first}
+use Rattle.examples_uses.specs.Letters.{letters, with_upper_a, with_digits, with_punctuation, with_ideographs, with_e_behind_abc, with_two_prefixes}
+use Rattle.examples_uses.specs.Keys.{key, hex, last_bytes, bytes_order}
+use Rattle.examples_uses.proofs.KeyRowComputing.{computing}
 
 -- Primary, secondary and tertiary of one letter, and of none.
 pub key_of_a : key letters (at_strength Tertiary) (codes "a") ≡ hex (codes "2a10010501010501")

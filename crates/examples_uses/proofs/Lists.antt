@@ -3,11 +3,11 @@ use Rattle.std.specs.Prelude.{◌≡◌, ℕ, List, [], ◌∷◌, ◌++◌, ref
 use Rattle.std.specs.declared.cmp.Ordering.TheVariants.{Less}
 use Rattle.icu_collator_types.specs.declared.options.Strength.TheVariants.{Primary, Tertiary}
 use Rattle.icu_normalizer_core.specs.Decoding.{utf8_chars}
-use Rattle.tests_worked_rows.specs.Files.{Lines}
-use Rattle.tests_worked_rows.specs.Asked.{at_strength, order, list_of}
+use Rattle.examples_uses.specs.Files.{Lines}
+use Rattle.examples_uses.specs.Asked.{at_strength, order, list_of}
 use Rattle.collate_lists.specs.Names.{equal_names}
-use Rattle.tests_worked_rows.specs.Letters.{letters}
-use Rattle.tests_worked_rows.proofs.WorkedComputing.{computing}
+use Rattle.examples_uses.specs.Letters.{letters}
+use Rattle.examples_uses.proofs.WorkedComputing.{computing}
 
 -- three names as they arrive
 abbrev arrived : List (List ℕ)

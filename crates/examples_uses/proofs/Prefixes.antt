@@ -2,9 +2,9 @@
 use Rattle.std.specs.Prelude.{◌≡◌, [], ◌∷◌, refl, codes}
 use Rattle.std.specs.declared.cmp.Ordering.TheVariants.{Less, Greater}
 use Rattle.icu_collator_types.specs.declared.options.Strength.TheVariants.{Primary, Tertiary}
-use Rattle.tests_worked_rows.specs.Asked.{at_strength, order, list_of}
-use Rattle.tests_worked_rows.specs.Letters.{letters, with_c_behind_ab, with_e_behind_abc, with_two_prefixes}
-use Rattle.tests_worked_rows.proofs.WorkedComputing.{computing}
+use Rattle.examples_uses.specs.Asked.{at_strength, order, list_of}
+use Rattle.examples_uses.specs.Letters.{letters, with_c_behind_ab, with_e_behind_abc, with_two_prefixes}
+use Rattle.examples_uses.proofs.WorkedComputing.{computing}
 
 -- Behind "ab" the letter "c" is above "e".
 pub abc_is_above_abe : order with_c_behind_ab (at_strength Tertiary) (codes "abc") (codes "abe") ≡ Greater
