@@ -122,7 +122,7 @@ check_limits() {
 # The records files that the gate runs are those of records/. The root of crates/tests_languages is lines of the root alone.
 check_copies() {
     local file root=crates/tests_languages/data/root.records
-    for file in crates/examples_alphabets/data/*.records crates/tests_root/data/*.records; do
+    for file in crates/examples_alphabets/data/*.records crates/collate_unicode/data/*.records; do
         cmp -s "$file" "records/${file##*/}" || complain "$file: not the file of records/"
     done
     for file in crates/tests_languages/data/*.records; do

@@ -1,13 +1,13 @@
 #!/usr/bin/env python3
-"""Writes a run of `collate` over records/root.records, and what it must reply, by CLDR's conformance test.
+"""Writes a run of `collate_unicode` over records/root.records, and what it must reply, by CLDR's conformance test.
 
-  root_rows.py FOLDER              writes FOLDER/stdin and FOLDER/stdout
+  root_rows.py FOLDER              writes the end of FOLDER/stdin and FOLDER/stdout, behind their last removal
   root_rows.py --check FOLDER      compares them with what would be written; the status is 1 where they differ
 
 2,000 lines of CollationTest_CLDR_NON_IGNORABLE.txt (Debian's unicode-cldr-core), taken evenly of those with another sort key
 than the line before, are added far from their order, and listed: the reply is the order of the test. The program is
-run without options. Where a file lacks or a line isn't understood, file, line and words stand on standard error, the status
-is 2, and nothing is written.
+run without options. What stands before, up to the last name removed, is kept: it has to leave no name. Where a file lacks or
+a line isn't understood, file, line and words stand on standard error, the status is 2, and nothing is written.
 """
 import os
 import re
@@ -46,6 +46,15 @@ def chosen():
     return [texts[number * (len(texts) - 1) // (COUNT - 1)] for number in range(COUNT)]
 
 
+def kept(path, word):
+    """The bytes of a stored file up to the last line that begins with the word; none where there is no file."""
+    if not os.path.exists(path):
+        return b''
+    lines = open(path, 'rb').read().split(b'\n')
+    count = max((number for number, line in enumerate(lines, 1) if line.startswith(word)), default=0)
+    return b''.join(line + b'\n' for line in lines[:count])
+
+
 def main(words):
     checks = words[:1] == ['--check']
     words = words[checks:]
@@ -54,15 +63,16 @@ def main(words):
         return 2
     texts = chosen()
     added = ''.join(f'add {texts[number * STRIDE % COUNT]}\n' for number in range(COUNT))
-    files = {'stdin': f'{added}list\n', 'stdout': COUNT * 'added\n' + f'names {COUNT}\n' + ''.join(f'{text}\n' for text in texts)}
+    listed = COUNT * 'added\n' + f'names {COUNT}\n' + ''.join(f'{text}\n' for text in texts)
     status = 0
-    for name, text in files.items():
+    for name, word, text in [('stdin', b'remove ', f'{added}list\n'), ('stdout', b'removed', listed)]:
         path = os.path.join(words[0], name)
         try:
+            written = kept(path, word) + text.encode()
             if not checks:
                 with open(path, 'wb') as file:
-                    file.write(text.encode())
-            elif open(path, 'rb').read() != text.encode():
+                    file.write(written)
+            elif open(path, 'rb').read() != written:
                 print(f'root_rows.py: {path}: not what would be written', file=sys.stderr)
                 status = 1
         except OSError as error:

@@ -1,3 +1,4 @@
 pub mod bytes
 pub mod commands
 pub mod lines
+pub mod moved

@@ -5,6 +5,7 @@
 
 pub mod buffered;
 mod fused;
+pub mod laws;
 pub mod over;
 pub mod program;
 mod replies;

@@ -1,5 +1,4 @@
 //! Laws of whole runs of `collate`. Each function's contract is the law, and its body is empty.
-#![tactic(auto)]
 
 ghost use Rattle.std.specs.List.Sorted.{IsPermutation};
 ghost use Rattle.std.specs.Prelude.{◌+◌, ◌↔◌, ℕ, List, Option, Result, take};

@@ -19,7 +19,7 @@ use Rattle.collate_run.specs.Replies.{Answers, AreReplies, Denies, Grants, LineC
 use Rattle.collate_run.specs.Runs.{Does, Ran, input_limit, lines_read}
 use Rattle.collate_run.specs.declared.run.RunFault.{RunFault}
 use Rattle.collate_run.specs.declared.run.RunFault.TheVariants.{Memory, Read, Write, LineTooLong, InputTooLong, CutReload}
-use Rattle.collate_run_laws.proofs.RunLawMovedLemmas.{AreMoved, between_same, equal_same, key_same, made_same, sorted_same}
+use Rattle.collate_run.proofs.moved.RunLawMovedLemmas.{AreMoved, between_same, equal_same, key_same, made_same, sorted_same}
 
 -- a catalogue that the other catalogue comes to
 abbrev Comes : (Catalogue → Type 0) → Catalogue → Type 0

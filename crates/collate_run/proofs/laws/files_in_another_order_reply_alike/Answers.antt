@@ -1,6 +1,6 @@
 use Rattle.collate_index.specs.Catalogue.{opened_by}
-use Rattle.collate_run_laws.proofs.ReplyLemmas.{opened_moved, ran_moved, replies_moved}
-use Rattle.collate_run_laws.proofs.files_in_another_order_reply_alike.Goals as goal
+use Rattle.collate_run.proofs.moved.ReplyLemmas.{opened_moved, ran_moved, replies_moved}
+use Rattle.collate_run.proofs.laws.files_in_another_order_reply_alike.Goals as goal
 
 pub returns : goal.returns
 returns c = record {

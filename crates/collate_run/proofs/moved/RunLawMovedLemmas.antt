@@ -27,7 +27,7 @@ use Rattle.collate_index.specs.Reloads.{AreKeysMade, AreTouched}
 use Rattle.collate_index.specs.declared.asked.Asked.{Asked}
 use Rattle.collate_index.proofs.order.NameOrderLemmas.{keys_order_in_index}
 use Rattle.collate_run.specs.Replies.{key_of_name}
-use Rattle.collate_run_laws.proofs.TouchedLemmas.{names_touched_along, settings_along, settings_back}
+use Rattle.collate_run.proofs.moved.TouchedLemmas.{names_touched_along, settings_along, settings_back}
 
 -- catalogues that differ in the order of accepted records alone
 pub record AreMoved (s t : Catalogue) : Type 0 where

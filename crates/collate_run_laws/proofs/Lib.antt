@@ -1,3 +1,0 @@
-pub mod RunLawMovedLemmas
-pub mod ReplyLemmas
-pub mod TouchedLemmas
