@@ -27,8 +27,9 @@ def graph(crate):
     edges = {module: set() for module in texts}
     for module, text in texts.items():
         for path in (path for use in USE.findall(text) for path in paths(use)):
-            base = {"crate": (), "super": module[:-1], "self": module}.get(path[0])
-            full = module + tuple(path) if base is None else base + tuple(path[1:])
+            full = () if path[0] == "crate" else module
+            for name in path[path[0] in ("crate", "self") :]:
+                full = full[:-1] if name == "super" else full + (name,)
             used = next((full[:n] for n in range(len(full), 0, -1) if full[:n] in texts), module)
             edges[module] |= {used} - {module}
     return {"/".join(module): {"/".join(other) for other in used} for module, used in edges.items()}

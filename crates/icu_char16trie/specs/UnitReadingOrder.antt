@@ -6,8 +6,8 @@ use Rattle.icu_char16trie.specs.UnitPartSteps.{part_step, part_place}
 use Rattle.icu_char16trie.specs.declared.reader.part.Part.{Part}
 use Rattle.icu_char16trie.specs.declared.reader.part.Part.TheVariants as part
 use Rattle.icu_char16trie.specs.declared.reader.part.Step.{Step}
-use Rattle.icu_char16trie.specs.declared.reader.ReadUnitsError.{ReadUnitsError}
-use Rattle.icu_char16trie.specs.declared.reader.ReadUnitsError.TheVariants.{BadUnits, Memory}
+use Rattle.icu_char16trie.specs.declared.reader.error.ReadUnitsError.{ReadUnitsError}
+use Rattle.icu_char16trie.specs.declared.reader.error.ReadUnitsError.TheVariants.{BadUnits, Memory}
 use Rattle.icu_char16trie.specs.declared.reader.queue.Task.{Task}
 use Rattle.icu_char16trie.specs.declared.reader.queue.Queue.{Queue}
 

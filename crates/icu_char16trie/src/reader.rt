@@ -1,70 +1,25 @@
 //! The keys and values of a unit trie, read in order.
-ghost use Rattle.std.specs.Prelude.{◌≡◌, ℕ, ℤ, List, Bool, true, IsTrue, ◌↔◌, IfOk, Err, map};
+ghost use Rattle.std.specs.Prelude.{◌≡◌, ℕ, ℤ, List, true, IsTrue, ◌↔◌, IfOk, Err, map};
 ghost use Rattle.icu_char16trie.specs.UnitMaps.{at_node, MapsKey};
 ghost use Rattle.icu_char16trie.specs.UnitGrammar.{IsListing, IsUnitTrie, IsWithin};
 ghost use Rattle.icu_char16trie.specs.UnitReadingOrder.{StopsAt};
-ghost use Rattle.icu_char16trie.specs.declared.reader.ReadUnitsError.TheVariants.{BadUnits};
+ghost use Rattle.icu_char16trie.specs.declared.reader.error.ReadUnitsError.TheVariants.{BadUnits};
 
 use super::cells::unit_at;
 use icu_packed_vector::PackedVec;
-use std::alloc::{AllocError, Global};
-use std::error::Error;
-use std::fmt;
+use std::alloc::Global;
 
+mod entry_test;
+mod error;
 mod folds;
 mod part;
 mod queue;
 
+pub use entry_test::EntryTest;
+pub use error::ReadUnitsError;
 pub use folds::{KeyFold, fold_keys};
 use part::Part;
 use queue::Queue;
-
-/// Why units are not read.
-#[derive(Clone, Copy, Debug, PartialEq, Eq, Drop)]
-pub enum ReadUnitsError {
-    /// The units break the grammar of unit tries, or a key in them is too long. Reading stops at the
-    /// place, counted in units from the first.
-    BadUnits(usize),
-    /// Out of memory.
-    Memory,
-}
-
-impl fmt::Display for ReadUnitsError {
-    ghost use Rattle.std.specs.Prelude.{Some};
-    ghost use Rattle.icu_char16trie.specs.UnitReadingOrder.{error_text};
-
-    ghost output = { λ error. Some (error_text error) };
-
-    fn fmt<W: fmt::Write>(&self, f: &mut fmt::Formatter<W>) -> fmt::Result {
-        match *self {
-            ReadUnitsError::BadUnits(place) => write!(f, "bad units at {place}"),
-            ReadUnitsError::Memory => f.write_str("out of memory"),
-        }
-    }
-}
-
-impl Error for ReadUnitsError {}
-
-impl From<AllocError> for ReadUnitsError {
-    ghost use Rattle.std.specs.Prelude.{◌≡◌};
-    ghost use Rattle.icu_char16trie.specs.declared.reader.ReadUnitsError.TheVariants.{Memory};
-
-    ghost from_gives = { λ _ error. error ≡ Memory };
-
-    fn from(_error: AllocError) -> ReadUnitsError {
-        ReadUnitsError::Memory
-    }
-}
-
-/// A test of keys and their values.
-pub trait EntryTest {
-    /// Whether a key with its value passes.
-    ghost test: { Self → List ℕ → ℤ → Bool };
-
-    /// Whether a key with its value passes.
-    fn passes(&self, key: &[u16], value: i32) -> bool
-        ensures { result ≡ test self.now key.now value };
-}
 
 /// The keys and values in the units of a unit trie, sorted by the units of the keys. No units
 /// give the empty list. `BadUnits` where the units break the grammar, where the first node has a

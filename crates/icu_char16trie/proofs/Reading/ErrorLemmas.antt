@@ -1,7 +1,7 @@
 -- Refusals of units, as results.
 use Rattle.std.proofs.Common.{◌≡◌, ℕ, Err, Result, ap}
-use Rattle.icu_char16trie.specs.declared.reader.ReadUnitsError.{ReadUnitsError}
-use Rattle.icu_char16trie.specs.declared.reader.ReadUnitsError.TheVariants.{BadUnits}
+use Rattle.icu_char16trie.specs.declared.reader.error.ReadUnitsError.{ReadUnitsError}
+use Rattle.icu_char16trie.specs.declared.reader.error.ReadUnitsError.TheVariants.{BadUnits}
 
 abbrev pub failed : (A : Type 0) → ReadUnitsError → Result A ReadUnitsError
 failed A error = Err error

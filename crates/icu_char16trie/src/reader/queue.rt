@@ -2,10 +2,11 @@
 ghost use Rattle.std.specs.Prelude.{◌≡◌, ◌++◌, ◌<◌, ◌≤◌, ◌↔◌, ◌&&◌, ℕ, [], length, Result, IfOk, OnOk, IsTrue, Err, map};
 ghost use Rattle.std.specs.Int.{cast_signed, w32};
 ghost use Rattle.icu_char16trie.specs.UnitReadingOrder.{jobs_left, pairs_read, onward, noted, extended, HasRoom, IsTaken, IsStuck, HasRead, HasTested, passes_all, StopsIn};
-ghost use Rattle.icu_char16trie.specs.declared.reader.ReadUnitsError.TheVariants.{BadUnits};
+ghost use Rattle.icu_char16trie.specs.declared.reader.error.ReadUnitsError.TheVariants.{BadUnits};
 
+use super::entry_test::EntryTest;
+use super::error::ReadUnitsError;
 use super::part::{Part, part_place, part_step};
-use super::{EntryTest, ReadUnitsError};
 use icu_packed_vector::PackedVec;
 use std::alloc::{AllocError, Global};
 

@@ -1,6 +1,6 @@
 use Rattle.std.proofs.Common.{◌∙◌, sym, subst}
 use Rattle.icu_char16trie.specs.UnitReadingOrder.{StopsAt, root_valued, jobs_left}
-use Rattle.icu_char16trie.specs.declared.reader.ReadUnitsError.TheVariants.{BadUnits}
+use Rattle.icu_char16trie.specs.declared.reader.error.ReadUnitsError.TheVariants.{BadUnits}
 use Rattle.icu_char16trie.proofs.Reading.ErrorLemmas.{error-same, place-same}
 use Rattle.icu_char16trie.proofs.Reading.OutcomeLemmas.{first_jobs, stops_read, refused_read}
 use Rattle.icu_char16trie.proofs.Reading.TestLemmas.{tested_root, tested_says}

@@ -1,7 +1,7 @@
 use Rattle.std.proofs.Common.{map, ap, ◌∙◌, sym, subst}
 use Rattle.icu_char16trie.specs.UnitGrammar.{IsListing}
 use Rattle.icu_char16trie.specs.UnitReadingOrder.{StopsAt, root_valued, jobs_left, pairs_read}
-use Rattle.icu_char16trie.specs.declared.reader.ReadUnitsError.TheVariants.{BadUnits}
+use Rattle.icu_char16trie.specs.declared.reader.error.ReadUnitsError.TheVariants.{BadUnits}
 use Rattle.icu_char16trie.proofs.Reading.ErrorLemmas.{error-same, place-same, error_at}
 use Rattle.icu_char16trie.proofs.Reading.OutcomeLemmas.{empty_listing, first_jobs, listing_read, stops_read, refused_read}
 use Rattle.icu_char16trie.proofs.reader.read_units.Goals as goal
