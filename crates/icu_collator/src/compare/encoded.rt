@@ -97,7 +97,7 @@ fn compare_by_difference<T: Characters, U: Characters>(
     if let Some(order) = order_by_difference(checked, options, difference) {
         return Ok(order);
     }
-    match compare_stretched(alloc, checked, options, boundary, difference)? {
+    match compare_stretched(alloc, checked, options, boundary)? {
         Some(order) => Ok(order),
         None => {
             let order = compare_past(alloc, checked, options, left, right, difference)?;

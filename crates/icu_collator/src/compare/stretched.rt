@@ -18,14 +18,12 @@ use super::common::counts;
 use super::flat::{Meeting, meet};
 use super::fronts::CommonBoundary;
 use super::listed::compare_elements_behind;
-use crate::common_front::FirstDifference;
 use crate::levels::counted_elements::variable_end;
 use crate::read_texts::numeric_lead;
 use icu_collator_core::checked::CheckedTables;
 use icu_collator_core::flat::{FlatStep, StretchedElements};
 use icu_collator_types::elements::CollationElement;
 use icu_collator_types::options::ResolvedCollatorOptions;
-use icu_normalizer_core::built_in::is_syllable;
 use std::alloc::{AllocError, Global};
 use std::cmp::Ordering;
 
@@ -140,24 +138,14 @@ fn race<I: Iterator<Item = char> + Drop, J: Iterator<Item = char> + Drop>(
     Ok(Meeting::Stopped)
 }
 
-/// Whether a text goes on with a Hangul syllable: stretches of such aren't read by notes.
-fn is_syllable_next(next: Option<char>) -> bool {
-    match next {
-        Some(c) => is_syllable(c as u32),
-        None => false,
-    }
-}
-
 /// The order of two texts with a boundary in common, if both can be read by stretches from it as far as it takes, and have few
-/// elements: `None` for others, where they first differ in Hangul syllables, and for some whose primaries are the same. Fails only
-/// when out of memory.
+/// elements: `None` for others, and for some whose primaries are the same. Fails only when out of memory.
 #[inline(never)]
 pub(super) fn compare_stretched<I: Iterator<Item = char> + Drop, J: Iterator<Item = char> + Drop>(
     alloc: Global,
     checked: &CheckedTables<'_>,
     options: &ResolvedCollatorOptions,
     boundary: CommonBoundary<I, J>,
-    difference: FirstDifference,
 ) -> Result<Option<Ordering>, AllocError>
     requires left { I.can_next boundary.left }
     requires left_ends { IsFinite (I.remaining boundary.left) }
@@ -167,9 +155,6 @@ pub(super) fn compare_stretched<I: Iterator<Item = char> + Drop, J: Iterator<Ite
         → BeginAt checked.now I.next_gives J.next_gives a b boundary.place boundary.left boundary.right
         → order ≡ collation_order (source_collation checked.now) options.now a b)) }
 {
-    if is_syllable_next(difference.left) || is_syllable_next(difference.right) {
-        return Ok(None);
-    }
     let mut lefts = StretchedElements::new(alloc);
     let mut rights = StretchedElements::new(alloc);
     let left = boundary.left;

@@ -9,7 +9,7 @@ use Rattle.icu_normalizer_core.specs.CanonicalWords.{syllable_letters}
 use Rattle.icu_normalizer_core.proofs.built.BuiltInFacts.{syllable_left}
 use Rattle.icu_normalizer_core.proofs.decomposed_lists.DecomposedLemmas.{left_one}
 use Rattle.icu_collator_core.specs.Acceptance.{CollationSource}
-use Rattle.icu_collator_core.specs.FlatNotes.{IsPushed}
+use Rattle.icu_collator_core.specs.FlatNotes.{BeginsApart, IsBoundaryApart, IsPushed}
 use Rattle.icu_collator_core.specs.ReadSources.{canonical_by}
 use Rattle.icu_collator_core.proofs.readings.FlatPartLemmas.{ArePushed, all_pushed, none_pushed, own_part, part_pushed}
 
@@ -60,3 +60,28 @@ module _ (source : CollationSource) (numeric : Option ℕ) (c before : ℕ) (ok 
       all_pushed source numeric c before old (a ∷ b ∷ d ∷ []) third three some is
       (part_pushed source numeric before old (a ∷ b ∷ []) second two d third three
       (both a b first second old one two (d ∷ []) is small pushed small_too pushed_too) (own (a ∷ b ∷ []) d [] is) last_small last_pushed)
+
+-- a syllable begins with a boundary where its first letter does
+letters_begin : (c : ℕ) → (rest : List ℕ) × (syllable_letters c ≡ (0x1100 + (c - 0xac00) / 588) ∷ rest)
+unfolding syllable_letters
+letters_begin c =
+    let i = c - 0xac00 in
+    let trailing : List ℕ = (0x11a7 + i % 28) ∷ [] in
+    ((0x1161 + i % 588 / 28) ∷ cond ((i % 28) == 0) [] trailing, refl)
+
+pub syllable_begins : (source : CollationSource) (numeric : Option ℕ) (c letter : ℕ) → IsCanonical (canonical_by source) → IsScalar c → is_syllable c ≡ true
+    → letter ≡ 0x1100 + (c - 0xac00) / 588 → BeginsApart source numeric letter → BeginsApart source numeric c
+syllable_begins source numeric c letter ok scalar e is b =
+    let spelled = letters_begin c in
+    let whole : (canonical_by source).full c ≡ letter ∷ spelled.0 =
+    full_letters (canonical_by source) ok.decomposing c scalar e ∙ spelled.1 ∙ ap (λ (x : ℕ). x ∷ spelled.0) (sym is) in
+    let alone : (canonical_by source).full letter ≡ letter ∷ [] =
+    own_part (canonical_by source) c letter [] spelled.0 (letter ∷ spelled.0) ok scalar (sym whole) refl in
+    let same : letter ∷ [] ≡ b.first ∷ b.rest = sym alone ∙ b.full in
+    let first : letter ≡ b.first = cc in
+    record {
+      first = letter;
+      rest = spelled.0;
+      full = whole;
+      apart = subst (λ (x : ℕ). IsBoundaryApart source numeric x) (sym first) b.apart;
+    }

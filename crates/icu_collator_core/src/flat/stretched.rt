@@ -9,6 +9,7 @@ use super::stretches::Stretch;
 use crate::checked::CheckedTables;
 use crate::notes::flat_elements::FlatElements;
 use icu_collator_types::elements::CollationElement;
+use icu_normalizer_core::built_in::is_syllable;
 use std::alloc::{AllocError, Global};
 
 /// How many elements are kept of a text.
@@ -81,7 +82,13 @@ impl CheckedTables<'_> {
             Some(note) => note.is_boundary(),
             None => match self.paged_note(c) {
                 Some(note) => note.is_boundary(),
-                None => false,
+                None => {
+                    if is_syllable(c as u32) {
+                        self.begins_with_boundary(c)
+                    } else {
+                        false
+                    }
+                }
             },
         }
     }

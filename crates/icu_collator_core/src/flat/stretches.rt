@@ -1,5 +1,5 @@
 //! Reading of texts parts of which aren't flat: from one boundary to the next such a part is read by its decomposed list, the
-//! rest by notes.
+//! rest by notes, syllables by those of their letters.
 
 ghost use Rattle.std.specs.Char.{IsScalar};
 ghost use Rattle.std.specs.Prelude.{◌≡◌, ◌≤◌, ◌∷◌, ◌++◌, ℕ, All, Option, List, [], IfOk, IfSome, length, take, true};
@@ -9,7 +9,7 @@ ghost use Rattle.icu_collator_core.specs.Acceptance.{CollationSource};
 ghost use Rattle.icu_collator_core.specs.ElementLists.{unpacked};
 ghost use Rattle.icu_collator_core.specs.ElementTexts.{text_elements};
 ghost use Rattle.icu_normalizer_core.specs.Canonical.{IsDecomposing, decomposed};
-ghost use Rattle.icu_collator_core.specs.FlatNotes.{BeginsApart, IsFlatNote};
+ghost use Rattle.icu_collator_core.specs.FlatNotes.{BeginsApart, IsFlatNote, IsPushed};
 ghost use Rattle.icu_collator_core.specs.ReadSources.{canonical_by};
 ghost use Rattle.icu_collator_core.specs.Stretched.{BeginsWithElements, EndsApart};
 ghost use Rattle.icu_collator_core.specs.Stretches.{HasElements, IsClosed, IsOpen};
@@ -21,6 +21,7 @@ use crate::notes::flat_note::{BEFORE_BOUNDARY, FlatNote};
 use crate::reading::decomposing::decompose_into;
 use crate::reading::prefixes::is_told_alone;
 use icu_collator_types::elements::CollationElement;
+use icu_normalizer_core::built_in::is_syllable;
 use smallvec::SmallVec;
 use std::alloc::{AllocError, Global};
 
@@ -160,6 +161,28 @@ impl CheckedTables<'_> {
         Ok(is_read)
     }
 
+    /// Appends the elements of a boundary that stands behind one of this class: by its note, or a syllable's by its letters.
+    #[inline(always)]
+    fn push_boundary<const N: usize>(
+        &self,
+        numeric: Option<u8>,
+        c: char,
+        note: FlatNote,
+        before: u16,
+        elements: &mut FlatElements<N>,
+    ) -> Option<u16>
+        requires { IsFlatNote self.now c note }
+        ensures { IfSome result (λ trail. IsPushed self.now numeric c before elements.old.items trail elements.new.items) }
+    {
+        if let FlatNote::Other = note {
+            if is_syllable(c as u32) {
+                return self.push_syllable(numeric, c, before, elements);
+            }
+        }
+        let trail = note.push(numeric, before, elements)?;
+        Some(trail)
+    }
+
     /// Begins a stretch with a boundary; `false` where the one before can't be read, or there is no room. Fails only when out of
     /// memory.
     #[inline(always)]
@@ -184,7 +207,7 @@ impl CheckedTables<'_> {
         stretch.is_rough = false;
         stretch.chars.clear();
         stretch.chars.push(c)?;
-        match note.push(numeric, stretch.class, elements) {
+        match self.push_boundary(numeric, c, note, stretch.class, elements) {
             Some(class) => {
                 stretch.class = class;
                 Ok(true)
@@ -257,6 +280,11 @@ impl CheckedTables<'_> {
         ensures { IfOk result (λ is_read. is_read ≡ true → (text : List ℕ) → IsOpen self.now numeric text stretch.old elements.old.items
             → IsOpen self.now numeric (text ++ c ∷ []) stretch.new elements.new.items) }
     {
+        if is_syllable(c as u32) {
+            if self.begins_with_boundary(c) {
+                return self.begin(numeric, c, FlatNote::Other, stretch, elements);
+            }
+        }
         let note = self.read_note(c);
         if note.is_boundary() {
             self.begin(numeric, c, note, stretch, elements)

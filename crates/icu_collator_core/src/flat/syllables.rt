@@ -1,8 +1,8 @@
 //! Flat reading of Hangul syllables by their letters, each by its note.
 
-ghost use Rattle.std.specs.Prelude.{◌≡◌, ◌<◌, ◌≤◌, true, IfSome};
+ghost use Rattle.std.specs.Prelude.{◌≡◌, ◌<◌, ◌≤◌, ℕ, true, IfSome, Option};
 ghost use Rattle.icu_normalizer_core.specs.BuiltIn.{is_syllable};
-ghost use Rattle.icu_collator_core.specs.FlatNotes.{IsPushed};
+ghost use Rattle.icu_collator_core.specs.FlatNotes.{BeginsApart, IsPushed};
 
 use crate::checked::CheckedTables;
 use crate::notes::flat_elements::FlatElements;
@@ -18,6 +18,20 @@ fn letter(code: u32) -> char
 }
 
 impl CheckedTables<'_> {
+    /// Whether a note tells that the first letter of a syllable is a boundary.
+    #[inline(never)]
+    pub(super) fn begins_with_boundary(&self, c: char) -> bool
+        requires { is_syllable c ≡ true }
+        ensures { result ≡ true → (numeric : Option ℕ) → BeginsApart self.now numeric c }
+    {
+        self.canonical().keep_promise();
+        let leading = letter(0x1100 + (c as u32 - 0xac00) / 588);
+        match self.paged_note(leading) {
+            Some(note) => note.is_boundary(),
+            None => false,
+        }
+    }
+
     /// Appends the elements of a letter that stands behind a character of this class, by its note, if it is read alone, and there
     /// is room; answers its class.
     #[inline(always)]
