@@ -10,7 +10,7 @@ use Rattle.icu_collator_types.specs.Options.{has_case_level, is_at_least, is_num
 use Rattle.icu_collator_core.specs.Acceptance.{CollationSource}
 use Rattle.icu_collator_core.specs.Collation.{Collation}
 use Rattle.icu_collator_core.specs.Elements.{elements_of_list}
-use Rattle.icu_collator.specs.declared.read_texts.ReadText.{ReadText}
+use Rattle.icu_collator.specs.declared.read_texts.texts.ReadText.{ReadText}
 use Rattle.icu_collator.specs.LevelLists.{cases_by, counted_list, primaries_by, quaternary_ranks, secondary_ranks, tertiaries_by}
 use Rattle.icu_collator.specs.Order.{character_rank, where_in_force}
 use Rattle.icu_collator.specs.Shifted.{Counted, counted}

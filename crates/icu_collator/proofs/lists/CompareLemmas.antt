@@ -9,7 +9,7 @@ use Rattle.icu_collator_types.specs.declared.options.ResolvedCollatorOptions.{Re
 use Rattle.icu_collator_types.specs.declared.options.Strength.TheVariants.{Identical}
 use Rattle.icu_collator_types.specs.Options.{is_at_least}
 use Rattle.icu_collator_core.specs.Collation.{Collation}
-use Rattle.icu_collator.specs.declared.read_texts.ReadText.{ReadText}
+use Rattle.icu_collator.specs.declared.read_texts.texts.ReadText.{ReadText}
 use Rattle.icu_collator.specs.LevelLists.{primaries_by}
 use Rattle.icu_collator.specs.Levels.{elements_of_text, levels_of, quaternary_at, secondaries_of}
 use Rattle.icu_collator.specs.Order.{character_rank, collation_order, levels_order, list_order, quaternary_rank, secondary_rank, where_in_force}

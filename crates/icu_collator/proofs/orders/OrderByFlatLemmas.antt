@@ -33,7 +33,7 @@ use Rattle.icu_collator.specs.TextsRead.{IsReadOf, numeric_by, order_from_second
 use Rattle.icu_collator.specs.declared.compare.flat.ByPrimaries.TheVariants.{Decided, Same}
 use Rattle.icu_collator.specs.declared.compare.flat.Meeting.{Meeting}
 use Rattle.icu_collator.specs.declared.compare.flat.Meeting.TheVariants.{Alike, BothEnd, Parted, Stopped}
-use Rattle.icu_collator.specs.declared.read_texts.ReadText.{ReadText}
+use Rattle.icu_collator.specs.declared.read_texts.texts.ReadText.{ReadText}
 use Rattle.icu_collator.proofs.boundaries.DecidingCharacterLemmas.{primaries_decide}
 use Rattle.icu_collator.proofs.boundaries.LevelFrontLemmas.{ranks_end, ranks_on}
 use Rattle.icu_collator.proofs.lists.CompareLemmas.{equal_primaries, texts_read}

@@ -17,7 +17,7 @@ use Rattle.icu_collator.specs.Levels.{secondary_at, tertiary_at}
 use Rattle.icu_collator.specs.Order.{secondary_rank, where_in_force}
 use Rattle.icu_collator.specs.Shifted.{Counted, whole}
 use Rattle.icu_collator.specs.TextsRead.{counted_in, lists_order, order_from_cases, order_from_quaternaries, order_from_secondaries, order_from_tertiaries}
-use Rattle.icu_collator.specs.declared.read_texts.ReadText.{ReadText}
+use Rattle.icu_collator.specs.declared.read_texts.texts.ReadText.{ReadText}
 use Rattle.icu_collator.proofs.lists.CountedLemmas.{by_whole, none_below}
 use Rattle.icu_collator.proofs.lists.CollatorListLemmas.{ranks_by}
 

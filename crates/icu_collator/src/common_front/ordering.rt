@@ -6,8 +6,8 @@ ghost use Rattle.icu_collator.specs.Collators.{source_collation};
 ghost use Rattle.icu_collator.specs.Fronts.{PartAt};
 ghost use Rattle.icu_collator.specs.Order.{collation_order};
 
-use super::FirstDifference;
 use super::deciding::order_of_next;
+use super::differences::FirstDifference;
 use super::next::next_character;
 use super::syllables::by_letters;
 use crate::levels::counted_elements::variable_end;

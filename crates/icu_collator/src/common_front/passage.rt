@@ -8,7 +8,7 @@ ghost use Rattle.icu_collator.specs.Fronts.{IsPlaceToBegin};
 ghost use Rattle.icu_collator.specs.ReadingPlaces.{IsOpenPassage, IsReadingPlace};
 
 use super::next::{first_of_full, is_safe};
-use super::{PassageKind, PassageTest, place_to_begin};
+use super::places::{PassageKind, PassageTest, place_to_begin};
 use crate::encodings::Characters;
 use icu_collator_core::checked::CheckedTables;
 use icu_collator_types::options::{

@@ -7,7 +7,7 @@ ghost use Rattle.icu_normalizer_core.specs.Canonical.{Canonical, IsDecomposing};
 ghost use Rattle.icu_collator.specs.Fronts.{PartAt};
 ghost use Rattle.icu_collator.specs.Syllables.{DifferInLetters, EquivalentPartAt};
 
-use super::FirstDifference;
+use super::differences::FirstDifference;
 use icu_normalizer_core::built_in::is_syllable;
 
 /// A Hangul letter, by its code point.

@@ -5,7 +5,7 @@ ghost use Rattle.std.specs.Char.{IsScalar};
 ghost use Rattle.std.specs.Iterator.{YieldsFirst, item_count};
 ghost use Rattle.icu_normalizer_core.specs.Decoding.{latin1_chars};
 
-use super::PeekLow;
+use super::characters::PeekLow;
 use std::marker::Model;
 
 /// The characters that are left of a text in Latin-1: each byte is a character.

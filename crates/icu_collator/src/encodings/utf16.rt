@@ -5,7 +5,7 @@ ghost use Rattle.std.specs.Char.{IsScalar};
 ghost use Rattle.std.specs.Iterator.{YieldsFirst, item_count};
 ghost use Rattle.icu_normalizer_core.specs.Decoding.{utf16_chars};
 
-use super::PeekLow;
+use super::characters::PeekLow;
 use icu_normalizer_core::decoding::decode_utf16;
 use std::marker::Model;
 

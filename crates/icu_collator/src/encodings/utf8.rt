@@ -5,7 +5,7 @@ ghost use Rattle.std.specs.Char.{IsScalar};
 ghost use Rattle.std.specs.Iterator.{YieldsFirst, item_count};
 ghost use Rattle.icu_normalizer_core.specs.Decoding.{utf8_chars};
 
-use super::PeekLow;
+use super::characters::PeekLow;
 use bstr::ByteSlice;
 use std::marker::Model;
 

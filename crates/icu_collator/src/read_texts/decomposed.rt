@@ -9,7 +9,7 @@ ghost use Rattle.icu_collator_types.specs.declared.options.Strength.TheVariants.
 ghost use Rattle.icu_collator.specs.Collators.{source_collation};
 ghost use Rattle.icu_collator.specs.TextsRead.{IsReadList, IsReadOf, numeric_by};
 
-use super::OwnedText;
+use super::texts::OwnedText;
 use crate::levels::counted_elements::{counted, variable_end};
 use icu_collator_core::checked::CheckedTables;
 use icu_collator_core::elements::whole_texts::{decomposed_list, list_elements};

@@ -1,8 +1,8 @@
 use Rattle.std.proofs.Common.{◌∙◌, sym, subst}
 use Rattle.icu_normalizer_core.specs.Iter.{Spells}
 use Rattle.icu_collator.proofs.boundaries.PlaceLemmas.{search_anew, search_begins, search_goes_on, search_passes}
-use Rattle.icu_collator.proofs.common_front.place_to_begin.Goals.{in-Open, in-GoesOn, in-Closed}
-use Rattle.icu_collator.proofs.common_front.place_to_begin.Goals as goal
+use Rattle.icu_collator.proofs.common_front.places.place_to_begin.Goals.{in-Open, in-GoesOn, in-Closed}
+use Rattle.icu_collator.proofs.common_front.places.place_to_begin.Goals as goal
 
 pub loop-c-init : goal.loop-c-init
 loop-c-init g c = λ text h.

@@ -1,7 +1,7 @@
 use Rattle.std.proofs.Common.{ℕ, List}
 use Rattle.icu_normalizer_core.specs.Iter.{Spells}
 use Rattle.icu_collator.proofs.boundaries.FirstDifferenceLemmas.{AgreeSoFar}
-use Rattle.icu_collator.proofs.common_front.first_difference.Given as goal
+use Rattle.icu_collator.proofs.common_front.differences.first_difference.Given as goal
 
 abbrev pub invariant-loop-c : goal.invariant-loop-c
 invariant-loop-c g l =

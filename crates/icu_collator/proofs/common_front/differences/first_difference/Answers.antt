@@ -1,7 +1,7 @@
 use Rattle.std.proofs.Common.{sym, arith, subst}
 use Rattle.icu_normalizer_core.specs.Iter.{Spells}
 use Rattle.icu_collator.proofs.boundaries.FirstDifferenceLemmas.{agree_first, agree_more, part_left_end, part_right_end, part_there}
-use Rattle.icu_collator.proofs.common_front.first_difference.Goals as goal
+use Rattle.icu_collator.proofs.common_front.differences.first_difference.Goals as goal
 
 pub loop-c-init : goal.loop-c-init
 loop-c-init g c =
