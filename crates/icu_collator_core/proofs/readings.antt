@@ -21,6 +21,7 @@ pub mod SamenessLemmas
 pub mod SoundElementsLemmas
 pub mod SplitAtBoundaryLemmas
 pub mod PairLemmas
+pub mod PrimariesLemmas
 pub mod StretchLemmas
 pub mod StretchedLemmas
 pub mod SyllablePartLemmas

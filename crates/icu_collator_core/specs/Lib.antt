@@ -58,3 +58,4 @@ pub mod FlatLists
 pub mod FlatNotes
 pub mod NotePages
 pub mod FlatSteps
+pub mod NextPrimaries

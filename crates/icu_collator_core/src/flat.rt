@@ -9,6 +9,7 @@ ghost use Rattle.icu_collator_core.specs.FlatNotes.{IsPushed};
 
 mod found_notes;
 mod listed;
+mod primaries;
 mod steps;
 pub(crate) mod stretched;
 mod stretches;
@@ -18,6 +19,7 @@ use crate::checked::CheckedTables;
 pub use crate::notes::flat_elements::FlatElements;
 use crate::notes::flat_note::FlatNote;
 use icu_normalizer_core::built_in::is_syllable;
+pub use primaries::NextPrimaries;
 pub use steps::FlatStep;
 pub use stretched::StretchedElements;
 

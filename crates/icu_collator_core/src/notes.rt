@@ -5,5 +5,6 @@ pub(crate) mod collation_notes;
 pub(crate) mod flat_elements;
 pub(crate) mod flat_note;
 pub(crate) mod flat_notes;
+pub(crate) mod found_pairs;
 pub(crate) mod pages;
 pub(crate) mod pairs;

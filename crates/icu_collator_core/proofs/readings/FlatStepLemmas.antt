@@ -35,7 +35,7 @@ primary_here bits =
       | inr e ↦ rw e refl
     ]
 
-one_primary : (bits p : ℕ) → (element_of bits).primary ≡ p → primaries_in (bits ∷ []) ≡ primary_if_any p
+pub one_primary : (bits p : ℕ) → (element_of bits).primary ≡ p → primaries_in (bits ∷ []) ≡ primary_if_any p
 one_primary bits p e = primary_here bits ∙ ap primary_if_any e
 
 two_primaries : (bits other p : ℕ) → (element_of bits).primary ≡ p → (element_of other).primary ≡ 0 → primaries_in (bits ∷ other ∷ []) ≡ primary_if_any p

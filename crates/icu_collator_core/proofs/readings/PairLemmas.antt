@@ -19,7 +19,7 @@ use Rattle.icu_collator_core.specs.Defaults.{default_elements, special_primary}
 use Rattle.icu_collator_core.specs.ElementLists.{unpacked}
 use Rattle.icu_collator_core.specs.Elements.{Joining, Placed, Reading, at_greatest, characters_of, elements_of_list, elements_within, is_before_accent, joining, longest_prefix, match_length, placed_behind, prefix_match, reading, recorded_length, text_match, text_reading}
 use Rattle.icu_collator_core.specs.FlatNotes.{AreReadBefore}
-use Rattle.icu_collator_core.specs.Pairs.{IsClosedPair, IsPair, IsPairApart, IsPairNote, noted_elements}
+use Rattle.icu_collator_core.specs.Pairs.{IsClosedPair, IsComposedApart, IsPair, IsPairApart, IsPairNote, IsToldApart, noted_elements}
 use Rattle.icu_collator_core.specs.PlainWords.{IsUnprefixed}
 use Rattle.icu_collator_core.specs.Pools.{unprefixed_word}
 use Rattle.icu_collator_core.specs.ReadSources.{canonical_by, weights_by}
@@ -42,16 +42,25 @@ use Rattle.icu_collator_core.proofs.readings.CountLemmas.{any_count}
 
 -- ---- elements in an array of two
 
-pub one_noted : (items : List ℕ) (x : ℕ) → length items ≡ 1 → x ≡ slice_index items 0 → take (length items) (x ∷ x ∷ []) ≡ items
+pub one_noted : (items : List ℕ) (x : ℕ) → length items ≡ 1 → x ≡ slice_index items 0 → take (length items) (x ∷ x ∷ x ∷ []) ≡ items
 one_noted [] x l e = absurd (omega (arith, l))
 one_noted (a ∷ []) x l e = ap (λ (y : ℕ). y ∷ []) e
 one_noted (a ∷ b ∷ more) x l e = absurd (omega (arith, l))
 
-pub two_noted : (items : List ℕ) (x y : ℕ) → length items ≡ 2 → x ≡ slice_index items 0 → y ≡ slice_index items 1 → take (length items) (x ∷ y ∷ []) ≡ items
+pub two_noted : (items : List ℕ) (x y : ℕ) → length items ≡ 2 → x ≡ slice_index items 0 → y ≡ slice_index items 1 → take (length items) (x ∷ y ∷ y ∷ []) ≡ items
 two_noted [] x y l e f = absurd (omega (arith, l))
 two_noted (a ∷ []) x y l e f = absurd (omega (arith, l))
 two_noted (a ∷ b ∷ []) x y l e f = ap (λ (z : ℕ). z ∷ y ∷ []) e ∙ ap (λ (z : ℕ). a ∷ z ∷ []) f
 two_noted (a ∷ b ∷ d ∷ more) x y l e f = absurd (omega (arith, l))
+
+pub three_noted : (items : List ℕ) (x y z : ℕ) → length items ≡ 3 → x ≡ slice_index items 0 → y ≡ slice_index items 1 → z ≡ slice_index items 2
+    → take (length items) (x ∷ y ∷ z ∷ []) ≡ items
+three_noted [] x y z l e f g = absurd (omega (arith, l))
+three_noted (a ∷ []) x y z l e f g = absurd (omega (arith, l))
+three_noted (a ∷ b ∷ []) x y z l e f g = absurd (omega (arith, l))
+three_noted (a ∷ b ∷ d ∷ []) x y z l e f g =
+    ap (λ (w : ℕ). w ∷ y ∷ z ∷ []) e ∙ ap (λ (w : ℕ). a ∷ w ∷ z ∷ []) f ∙ ap (λ (w : ℕ). a ∷ b ∷ w ∷ []) g
+three_noted (a ∷ b ∷ d ∷ h ∷ more) x y z l e f g = absurd (omega (arith, l))
 
 -- what is noted of two characters is so
 pub pair_noted : (source : CollationSource) (pair : PairNote) (first second trail : ℕ) (items : List ℕ) → pair.first ≡ first → pair.second ≡ second
@@ -170,31 +179,55 @@ module _ (source : CollationSource) (c d : ℕ) (entry : TableWord) (said : AreS
 
 -- ---- their elements
 
+placed_uncounted : (weights : Weights) (near cs : List ℕ) → AllByRecursion (λ (c : ℕ). weights.digit c ≡ None) cs
+    → AllByRecursion (λ (p : Placed). weights.digit p.character ≡ None) (placed_behind near cs)
+unfolding placed_behind
+placed_uncounted weights near [] h = tt
+placed_uncounted weights near (c ∷ cs) h = (h.0, placed_uncounted weights (take longest_prefix (c ∷ near)) cs h.1)
+
+-- those of characters that tell alone which prefixes count, where a boundary follows
+bounded : (source : CollationSource) (c : ℕ) (cs items : List ℕ) → IsToldApart source c cs → scalars (c ∷ cs) ≡ true
+    → unpacked items ≡ elements_of_list (canonical_by source) (weights_by None source) false (c ∷ cs)
+    → (numeric : Option ℕ) → AreReadBefore source numeric (c ∷ cs) 256 items
+bounded source c cs items apart ok are numeric =
+    let list = c ∷ cs in
+    read_apart source numeric list items ok
+    (λ before b.
+    elements_alike (canonical_by source) (weights_by numeric source) (is_some numeric) (length list) (placed_behind before list) (placed_behind [] list)
+    (apart.told numeric before b)
+    ∙ within_led (canonical_by source) (weights_by None source) numeric (length list) (placed_behind [] list) (placed_uncounted (weights_by None source) [] list apart.uncounted)
+    ∙ sym are)
+
+pub composed_pair : (source : CollationSource) (first c m d : ℕ) (items : List ℕ) → IsComposedApart source c m d → scalars (c ∷ m ∷ d ∷ []) ≡ true
+    → unpacked items ≡ elements_of_list (canonical_by source) (weights_by None source) false (c ∷ m ∷ d ∷ [])
+    → (canonical_by source).full first ≡ c ∷ m ∷ [] → IsPair source first d items 256
+composed_pair source first c m d items apart ok are is =
+    record {
+      head = c;
+      rest = m ∷ [];
+      first_full = is;
+      second_own = apart.second_own;
+      characters = ok;
+      begins = apart.together.begins;
+      order = (inr (omega arith), (inl apart.starter, tt));
+      last = λ (small : 256 ≤ 255). absurd (omega (arith, small));
+      read = bounded source c (m ∷ d ∷ []) items apart.together ok are;
+    }
+
 module _ (source : CollationSource) (c d : ℕ) (items : List ℕ) (apart : IsPairApart source c d) (ok : scalars (c ∷ d ∷ []) ≡ true)
     (are : unpacked items ≡ elements_of_list (canonical_by source) (weights_by None source) false (c ∷ d ∷ [])) where
-  no_digits : AllByRecursion (λ (p : Placed). (weights_by None source).digit p.character ≡ None) (placed_behind [] (c ∷ d ∷ []))
-  unfolding placed_behind
-  no_digits = (apart.first_uncounted, (apart.second_uncounted, tt))
-
-  -- where a boundary follows
-  bounded : (numeric : Option ℕ) → AreReadBefore source numeric (c ∷ d ∷ []) 256 items
-  bounded numeric =
-      read_apart source numeric (c ∷ d ∷ []) items ok
-      (λ before b.
-      elements_alike (canonical_by source) (weights_by numeric source) (is_some numeric) 2 (placed_behind before (c ∷ d ∷ [])) (placed_behind [] (c ∷ d ∷ []))
-      (apart.told numeric before b)
-      ∙ within_led (canonical_by source) (weights_by None source) numeric 2 (placed_behind [] (c ∷ d ∷ [])) no_digits
-      ∙ sym are)
-
-  pub bounded_pair : IsPair source c d items 256
-  bounded_pair =
+  pub bounded_pair : (first : ℕ) → (canonical_by source).full first ≡ c ∷ [] → IsPair source first d items 256
+  bounded_pair first is =
       record {
-        first_own = apart.first_own;
+        head = c;
+        rest = [];
+        first_full = is;
         second_own = apart.second_own;
         characters = ok;
-        begins = apart.begins;
+        begins = apart.together.begins;
+        order = (inr (omega arith), tt);
         last = λ (small : 256 ≤ 255). absurd (omega (arith, small));
-        read = bounded;
+        read = bounded source c (d ∷ []) items apart.together ok are;
       }
 
   -- wherever they stand, where they are such a text
@@ -208,7 +241,7 @@ module _ (source : CollationSource) (c d : ℕ) (items : List ℕ) (apart : IsPa
     Read numeric before near qs b s =
         pair_read (canonical_by source) (weights_by numeric source) c d closed.elements d_ok closed.recorded closed.longest (is_some numeric) before near qs b s
         closed.unprefixed closed.ordinary
-        (and_right (is_some numeric) (is_some ((weights_by None source).digit c)) (ap (λ (o : Option ℕ). is_some o) apart.first_uncounted)) closed.undropped
+        (and_right (is_some numeric) (is_some ((weights_by None source).digit c)) (ap (λ (o : Option ℕ). is_some o) apart.together.uncounted.0)) closed.undropped
 
     closed_items : unpacked items ≡ closed.elements
     unfolding elements_within placed_behind
@@ -233,13 +266,16 @@ module _ (source : CollationSource) (c d : ℕ) (items : List ℕ) (apart : IsPa
         (any_count canonical weights counts (suc (length later)) (length later) qs (omega (arith, placed)) (omega (arith, placed)))
         ∙ ap (λ (es : List Element). es ++ elements_within (length later) canonical weights counts qs) (sym closed_items)
 
-    pub closed_pair : (canonical_by source).class d ≡ 0 → IsPair source c d items 0
-    closed_pair starter =
+    pub closed_pair : (first : ℕ) → (canonical_by source).full first ≡ c ∷ [] → (canonical_by source).class d ≡ 0 → IsPair source first d items 0
+    closed_pair first is starter =
         record {
-          first_own = apart.first_own;
+          head = c;
+          rest = [];
+          first_full = is;
           second_own = apart.second_own;
           characters = ok;
-          begins = apart.begins;
+          begins = apart.together.begins;
+          order = (inr (omega arith), tt);
           last = λ small. starter;
           read = closed_read;
         }

@@ -19,7 +19,7 @@ use Rattle.icu_collator_core.specs.ReadSources.{canonical_by, weights_by}
 use Rattle.icu_collator_core.specs.Stretches.{BeginsWithBoundary, HasElements, IsClosed, IsReadUpToStretch}
 use Rattle.icu_collator_core.proofs.readings.AlikeLemmas.{elements_alike}
 use Rattle.icu_collator_core.proofs.readings.BoundaryReadLemmas.{read_apart}
-use Rattle.icu_collator_core.proofs.readings.FlatOrderLemmas.{order_stands}
+use Rattle.icu_collator_core.proofs.readings.FlatOrderLemmas.{last_appended, order_stands}
 use Rattle.icu_collator_core.proofs.readings.FlatReadLemmas.{block_in_order, more_in_order, nothing_in_order}
 
 -- ---- lists
@@ -275,10 +275,12 @@ module _ (source : CollationSource) (numeric : Option ℕ) where
   pair_more text c count last is_rough items its new d trail h pair is =
       let apart = pair.begins numeric in
       let kept : take count new ≡ take count items = ap (take count) is ∙ front_kept count items its h.counted in
-      let both : flat_map full (c ∷ d ∷ []) ≡ c ∷ d ∷ [] =
-      ap (λ (l : List ℕ). l ++ (full d ++ [])) pair.first_own ∙ ap (λ (l : List ℕ). c ∷ (l ++ [])) pair.second_own in
-      let joined = block_in_order source numeric h.done (take count items) h.before c (d ∷ []) its trail h.closed pair.characters (inr apart)
-      (inl apart.0.starter, (inr (omega (arith, apart.0.starter)), tt)) pair.last (pair.read numeric) in
+      let behind = pair.rest ++ d ∷ [] in
+      let both : flat_map full (c ∷ d ∷ []) ≡ pair.head ∷ behind =
+      ap (λ (l : List ℕ). l ++ (full d ++ [])) pair.first_full ∙ ap (λ (l : List ℕ). pair.head ∷ (pair.rest ++ (l ++ []))) pair.second_own in
+      let joined = block_in_order source numeric h.done (take count items) h.before pair.head behind its trail h.closed pair.characters (inr apart)
+      (inl apart.0.starter, subst (λ (k : ℕ). StandInOrder class k behind) (sym apart.0.starter) pair.order)
+      (λ small. last_appended class (class pair.head) pair.rest (d ∷ []) ∙ pair.last small) (pair.read numeric) in
       record {
         done = h.done;
         before = h.before;
@@ -288,7 +290,7 @@ module _ (source : CollationSource) (numeric : Option ℕ) where
         same = same_still text (c ∷ []) h.done d h.same;
         flat = λ _.
             subst (λ (l : List ℕ). IsReadInOrder source numeric (h.done ++ l) trail new) (sym both)
-            (subst (λ (l : List ℕ). IsReadInOrder source numeric (h.done ++ c ∷ d ∷ []) trail l) (sym is) joined);
+            (subst (λ (l : List ℕ). IsReadInOrder source numeric (h.done ++ pair.head ∷ behind) trail l) (sym is) joined);
       }
 
   -- a text that is read to its end

@@ -12,6 +12,7 @@ ghost use Rattle.icu_collator_core.specs.declared.flat.steps.FlatStep.TheVariant
 
 use crate::checked::CheckedTables;
 use crate::notes::flat_note::{BEFORE_BOUNDARY, FlatNote};
+use crate::notes::pages::unpaged_note;
 use crate::sound::is_own_list;
 use icu_collator_types::elements::CollationElement;
 
@@ -208,7 +209,20 @@ impl CheckedTables<'_> {
         ensures { IfSome result (λ step. StepsTo self.now numeric c before step.0 step.1) }
     {
         self.canonical().keep_promise();
-        let note = self.find_note(c);
+        if let Some(note) = self.paged_note(c) {
+            let (primary, trail) = note.step(numeric, before)?;
+            return Some((primary, trail));
+        }
+        self.find_unpaged_primary(numeric, c, before)
+    }
+
+    /// The same of a character in no page.
+    #[inline(never)]
+    fn find_unpaged_primary(&self, numeric: Option<u8>, c: char, before: u32) -> Option<(u32, u32)>
+        ensures { IfSome result (λ step. StepsTo self.now numeric c before step.0 step.1) }
+    {
+        self.canonical().keep_promise();
+        let note = unpaged_note(self.sound(), c);
         let step = note.step(numeric, before)?;
         Some(step)
     }

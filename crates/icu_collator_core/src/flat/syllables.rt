@@ -10,7 +10,7 @@ use crate::notes::flat_note::BEFORE_BOUNDARY;
 
 /// A Hangul letter, by its code point.
 #[inline(always)]
-fn letter(code: u32) -> char
+pub(super) fn letter(code: u32) -> char
     requires { code < 0xd800 }
     ensures { result ≡ code }
 {

@@ -1,37 +1,14 @@
-//! Notes of two characters that stand together, of which the first begins recorded texts or the second has recorded prefixes: found
-//! once for all, and looked up by few reads.
+//! Notes of two characters that stand together, looked up by few reads.
 
-ghost use Rattle.std.specs.Prelude.{◌≡◌, ◌<◌, ◌∷◌, ℕ, All, List, [], IfOk, IfSome, None, OnOk, Some, false, is_some, length, true};
+ghost use Rattle.std.specs.Prelude.{◌≡◌, ◌<◌, All, [], IfOk, IfSome, length};
 ghost use Rattle.icu_collator_core.specs.Acceptance.{CollationSource};
-ghost use Rattle.icu_collator_core.specs.ElementLists.{unpacked};
-ghost use Rattle.icu_collator_core.specs.Elements.{elements_of_list};
-ghost use Rattle.icu_collator_core.specs.Pairs.{ArePairNotes, IsClosedPair, IsPair, IsPairApart, IsPairNote, noted_elements};
-ghost use Rattle.icu_collator_core.specs.ReadSources.{canonical_by, weights_by};
-ghost use Rattle.icu_collator_core.specs.ReadTexts.{longer_by};
-ghost use Rattle.icu_collator_core.specs.ReadWords.{AreSaidBy, table_word};
-ghost use Rattle.icu_collator_core.specs.Weights.{Weights};
-ghost use Rattle.icu_collator_core.specs.declared.reading.suffixes.LongerText.{LongerText};
+ghost use Rattle.icu_collator_core.specs.Pairs.{ArePairNotes, IsPair, IsPairNote, noted_elements};
 
-use super::boundaries::is_boundary;
-use super::flat_note::{BEFORE_BOUNDARY, FlatNote};
-use super::flat_notes::is_kept_apart;
-use super::pages::NotePage;
-use crate::reading::checked_words::checked_word;
-use crate::reading::lists::list_elements;
-use crate::reading::prefixes::is_told_alone;
-use crate::reading::suffixes::is_last;
-use crate::sound::{SoundTables, is_own_list};
-use crate::table_words::counting_words::CountingWord;
-use icu_char16trie::{Char16Trie, TrieResult};
 use icu_collator_types::elements::CollationElement;
-use smallvec::SmallVec;
 use std::alloc::{AllocError, Global};
 
 /// How many places are looked at for a pair.
 const PROBES: usize = 8;
-
-/// How many pairs are tried at the most, so that no tables take long.
-const MOST_TRIED: usize = 100_000;
 
 /// Two characters, and what is noted of them where they stand together.
 #[derive(Clone, Copy, Debug)]
@@ -41,7 +18,7 @@ pub(crate) struct PairNote {
     /// The second one.
     second: char,
     /// The elements of both, whatever stands before them.
-    elements: [CollationElement; 2],
+    elements: [CollationElement; 3],
     /// How many these are, 0 where nothing is noted.
     count: usize,
     /// The class of the second, 256 where a boundary has to follow.
@@ -72,15 +49,20 @@ impl PairNote {
         PairNote {
             first: '\0',
             second: '\0',
-            elements: [CollationElement::new(0); 2],
+            elements: [CollationElement::new(0); 3],
             count: 0,
             trail: 0,
         }
     }
 
-    /// A note of one element or two; `None` for none and for more.
-    #[tactic(auto, using(crate::proofs::readings::PairLemmas::one_noted, crate::proofs::readings::PairLemmas::two_noted))]
-    fn of(first: char, second: char, elements: &[CollationElement], trail: u16) -> Option<Self>
+    /// A note of one element to three; `None` for none and for more.
+    #[tactic(auto, using(crate::proofs::readings::PairLemmas::one_noted, crate::proofs::readings::PairLemmas::two_noted, crate::proofs::readings::PairLemmas::three_noted))]
+    pub(super) fn of(
+        first: char,
+        second: char,
+        elements: &[CollationElement],
+        trail: u16,
+    ) -> Option<Self>
         ensures first { IfSome result (λ pair. pair.first ≡ first) }
         ensures second { IfSome result (λ pair. pair.second ≡ second) }
         ensures trail { IfSome result (λ pair. pair.trail ≡ trail) }
@@ -88,7 +70,7 @@ impl PairNote {
     {
         let count = elements.len();
         if count == 1 {
-            let elements = [elements[0], elements[0]];
+            let elements = [elements[0], elements[0], elements[0]];
             return Some(PairNote {
                 first,
                 second,
@@ -98,7 +80,17 @@ impl PairNote {
             });
         }
         if count == 2 {
-            let elements = [elements[0], elements[1]];
+            let elements = [elements[0], elements[1], elements[1]];
+            return Some(PairNote {
+                first,
+                second,
+                elements,
+                count,
+                trail,
+            });
+        }
+        if count == 3 {
+            let elements = [elements[0], elements[1], elements[2]];
             return Some(PairNote {
                 first,
                 second,
@@ -115,7 +107,7 @@ impl PairNote {
     pub(crate) fn elements(&self) -> &[CollationElement]
         ensures { result.now ≡ noted_elements self.now }
     {
-        &self.elements[..self.count.min(2)]
+        &self.elements[..self.count.min(3)]
     }
 
     /// The class of the second, 256 where a boundary has to follow.
@@ -179,7 +171,7 @@ impl PairNotes {
     }
 
     /// Notes of pairs, each in a place of its own; where there is none near the first, the pair isn't noted.
-    fn placed(alloc: Global, pairs: &[PairNote]) -> Result<Self, AllocError>
+    pub(super) fn placed(alloc: Global, pairs: &[PairNote]) -> Result<Self, AllocError>
         ensures { IfOk result (λ notes. (source : CollationSource) → All (IsPairNote source) pairs.now → ArePairNotes source notes) }
     {
         let size = room_for(pairs.len());
@@ -226,261 +218,4 @@ fn room_for(count: usize) -> u32 {
         size = size.saturating_mul(2);
     }
     size
-}
-
-impl CountingWord<'_> {
-    /// Whether no text that begins with the character of the word and this one goes on.
-    fn ends_with(self, second: char) -> bool
-        ensures { result ≡ true → (cs : List ℕ) → longer_by (table_word self.entry) (second ∷ cs) ≡ longer_by (table_word self.entry) (second ∷ []) }
-    {
-        let Some(trie) = self.suffixes() else {
-            return true;
-        };
-        let mut cursor = trie.iter();
-        let answer = cursor.next(second);
-        is_last(answer)
-    }
-
-    /// Whether the character of the word and another are a recorded text.
-    fn begins_with(self, second: char) -> bool
-        ensures text { result ≡ true → (text : LongerText) × (longer_by (table_word self.entry) (second ∷ []) ≡ Some text) × (text.behind ≡ 1) }
-        ensures recorded { result ≡ true → (weights : Weights) (c : ℕ) → AreSaidBy weights (table_word self.entry) c
-            → is_some (weights.recorded [] (c ∷ second ∷ [])) ≡ true }
-    {
-        match self.longer_text(&[second], 0) {
-            Some(_text) => true,
-            None => false,
-        }
-    }
-}
-
-/// Whether anything may stand behind two characters, of which the second is a starter: they are a recorded text, no text begins
-/// with them, and the first is read so wherever it stands.
-fn is_closed(sound: &SoundTables<'_>, first: char, second: char) -> bool
-    ensures { result ≡ true → IsClosedPair sound.now first second }
-{
-    if is_kept_apart(sound, first) {
-        return false;
-    }
-    let word = checked_word(sound, first);
-    if !word.is_unprefixed() {
-        return false;
-    }
-    if !word.begins_with(second) {
-        return false;
-    }
-    word.ends_with(second)
-}
-
-/// Whether recorded texts go on with the character of a code.
-fn goes_on(trie: &Char16Trie<'_>, code: u32) -> bool {
-    match char::from_u32(code) {
-        Some(c) => {
-            let mut cursor = trie.iter();
-            !matches!(cursor.next(c), TrieResult::NoMatch)
-        }
-        None => false,
-    }
-}
-
-/// Whether two characters, each its own full list, are no digits, the first is a boundary, and they tell alone which recorded
-/// prefixes count.
-fn is_apart(sound: &SoundTables<'_>, first: char, second: char) -> bool
-    ensures { result ≡ true → IsPairApart sound.now first second }
-{
-    if !is_own_list(sound.canonical(), first) {
-        return false;
-    }
-    if !is_own_list(sound.canonical(), second) {
-        return false;
-    }
-    let digit = checked_word(sound, first).digit();
-    if digit.is_some() {
-        return false;
-    }
-    let other = checked_word(sound, second).digit();
-    if other.is_some() {
-        return false;
-    }
-    if !is_boundary(sound, first) {
-        return false;
-    }
-    is_told_alone(sound, &[first, second])
-}
-
-/// What may stand behind two characters: 0 where anything may behind the second, a starter, else 256.
-fn trail_of(sound: &SoundTables<'_>, first: char, second: char) -> u16
-    requires { IsPairApart sound.now first second }
-    ensures { (items : List ℕ) → unpacked items ≡ elements_of_list (canonical_by sound.now) (weights_by None sound.now) false (first ∷ second ∷ [])
-        → IsPair sound.now first second items result }
-{
-    if !sound.canonical().is_starter(second) {
-        return BEFORE_BOUNDARY;
-    }
-    if is_closed(sound, first, second) {
-        return 0;
-    }
-    BEFORE_BOUNDARY
-}
-
-/// Appends what is to be noted of two characters, if anything is. Fails only when out of memory.
-fn push_note(
-    alloc: Global,
-    sound: &SoundTables<'_>,
-    first: char,
-    second: char,
-    pairs: &mut Vec<PairNote>,
-) -> Result<(), AllocError>
-    requires { All (IsPairNote sound.now) pairs.old.items }
-    ensures { OnOk result (All (IsPairNote sound.now) pairs.new.items) }
-{
-    if !is_apart(sound, first, second) {
-        return Ok(());
-    }
-    let mut list = SmallVec::new(alloc);
-    list.push(first)?;
-    list.push(second)?;
-    let elements = list_elements(alloc, sound, None, list)?;
-    let trail = trail_of(sound, first, second);
-    match PairNote::of(first, second, elements.as_slice(), trail) {
-        Some(pair) => {
-            pairs.push(pair)?;
-            Ok(())
-        }
-        None => Ok(()),
-    }
-}
-
-/// Appends what is to be noted of a character and that of a code, if it is one. Fails only when out of memory.
-fn push_pair(
-    alloc: Global,
-    sound: &SoundTables<'_>,
-    first: char,
-    code: u32,
-    pairs: &mut Vec<PairNote>,
-) -> Result<(), AllocError>
-    requires { All (IsPairNote sound.now) pairs.old.items }
-    ensures { OnOk result (All (IsPairNote sound.now) pairs.new.items) }
-{
-    match char::from_u32(code) {
-        Some(second) => {
-            push_note(alloc, sound, first, second, pairs)?;
-            Ok(())
-        }
-        None => Ok(()),
-    }
-}
-
-/// Appends what is to be noted of a character with each of those with which texts that begin with it go on. Fails only when out of
-/// memory.
-fn push_joined(
-    alloc: Global,
-    sound: &SoundTables<'_>,
-    first: char,
-    trie: &Char16Trie<'_>,
-    seconds: &[u32],
-    pairs: &mut Vec<PairNote>,
-) -> Result<(), AllocError>
-    requires { All (IsPairNote sound.now) pairs.old.items }
-    ensures { OnOk result (All (IsPairNote sound.now) pairs.new.items) }
-{
-    for code in seconds {
-        if goes_on(trie, *code) {
-            push_pair(alloc, sound, first, *code, pairs)?;
-        }
-    }
-    Ok(())
-}
-
-/// Appends what is to be noted of a character with each that joins it or has prefixes, and answers how many were tried. Fails only
-/// when out of memory.
-fn push_pairs(
-    alloc: Global,
-    sound: &SoundTables<'_>,
-    first: char,
-    seconds: &[u32],
-    prefixed: &[u32],
-    pairs: &mut Vec<PairNote>,
-) -> Result<usize, AllocError>
-    requires { All (IsPairNote sound.now) pairs.old.items }
-    ensures { OnOk result (All (IsPairNote sound.now) pairs.new.items) }
-{
-    for code in prefixed {
-        push_pair(alloc, sound, first, *code, pairs)?;
-    }
-    match checked_word(sound, first).suffixes() {
-        Some(trie) => {
-            push_joined(alloc, sound, first, &trie, seconds, pairs)?;
-            Ok(seconds.len().saturating_add(prefixed.len()))
-        }
-        None => Ok(prefixed.len()),
-    }
-}
-
-/// Those of some characters with which prefixes are recorded. Fails only when out of memory.
-fn prefixed_among(
-    alloc: Global,
-    sound: &SoundTables<'_>,
-    codes: &[u32],
-) -> Result<Vec<u32>, AllocError> {
-    let mut prefixed = Vec::new(alloc);
-    for code in codes {
-        if let Some(c) = char::from_u32(*code) {
-            if !checked_word(sound, c).is_unprefixed() {
-                prefixed.push(*code)?;
-            }
-        }
-    }
-    Ok(prefixed)
-}
-
-/// Whether behind a character a boundary has to follow, as far as these notes tell: of the low characters, and in pages.
-fn asks_boundary(flat: &[FlatNote], pages: &[NotePage], c: char) -> bool {
-    let code = c as usize;
-    if let Some(note) = flat.get(code) {
-        return note.asks_boundary();
-    }
-    match pages.get(code / 64) {
-        Some(page) => match page.get(code % 64) {
-            Some(note) => note.asks_boundary(),
-            None => false,
-        },
-        None => false,
-    }
-}
-
-/// The notes of pairs whose first characters have a note behind which a boundary has to follow, and whose second are unsafe by what is
-/// recorded, as far as not too many are tried. Fails only when out of memory.
-pub(crate) fn pair_notes(
-    alloc: Global,
-    sound: &SoundTables<'_>,
-    flat: &[FlatNote],
-    pages: &[NotePage],
-) -> Result<PairNotes, AllocError>
-    ensures { IfOk result (λ notes. ArePairNotes sound.now notes) }
-{
-    let seconds = sound.unsafe_characters();
-    let prefixed = prefixed_among(alloc, sound, seconds)?;
-    let mut pairs = Vec::new(alloc);
-    let mut tried = 0usize;
-    for code in 0..0x1_0000 {
-        if tried >= MOST_TRIED {
-            break;
-        }
-        if let Some(first) = char::from_u32(code) {
-            if asks_boundary(flat, pages, first) {
-                let more = push_pairs(
-                    alloc,
-                    sound,
-                    first,
-                    seconds,
-                    prefixed.as_slice(),
-                    &mut pairs,
-                )?;
-                tried = tried.saturating_add(more);
-            }
-        }
-    }
-    let notes = PairNotes::placed(alloc, pairs.as_slice())?;
-    Ok(notes)
 }

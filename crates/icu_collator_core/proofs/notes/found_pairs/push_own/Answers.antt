@@ -1,4 +1,4 @@
-use Rattle.std.proofs.Common.{◌≡◌, ◌∷◌, [], ◌∙◌, All, ap, List, ℕ, None, false, rules, subst, sym, true}
+use Rattle.std.proofs.Common.{◌≡◌, ◌∷◌, [], ◌∙◌, All, ap, List, ℕ, None, false, rules, subst, sym}
 use Rattle.std.proofs.lemmas.List.Elements.{All-push}
 use Rattle.icu_collator_core.specs.ElementLists.{unpacked}
 use Rattle.icu_collator_core.specs.Elements.{elements_of_list}
@@ -6,19 +6,20 @@ use Rattle.icu_collator_core.specs.Pairs.{IsPairNote}
 use Rattle.icu_collator_core.specs.ReadSources.{canonical_by, weights_by}
 use Rattle.icu_collator_core.specs.declared.notes.pairs.PairNote.{PairNote}
 use Rattle.icu_collator_core.proofs.readings.PairLemmas.{pair_noted}
-use Rattle.icu_collator_core.proofs.notes.pairs.push_note.Goals as goal
+use Rattle.icu_collator_core.proofs.notes.found_pairs.push_own.Goals as goal
 
 pub returns-in-Some : goal.returns-in-Some
 returns-in-Some c =
     let source = c.args.sound.now in
     let first = c.args.first in
+    let head = c.args.head in
     let second = c.args.second in
     let items = c.in_ok-elements.elements.items in
-    let list : c.push-2.new.self.items ≡ first ∷ second ∷ [] = search rules in
-    let are : unpacked items ≡ elements_of_list (canonical_by source) (weights_by None source) false (first ∷ second ∷ []) =
+    let list : c.push-2.new.self.items ≡ head ∷ second ∷ [] = search rules in
+    let are : unpacked items ≡ elements_of_list (canonical_by source) (weights_by None source) false (head ∷ second ∷ []) =
     c.in_ok-elements.ensures ∙ ap (λ (l : List ℕ). elements_of_list (canonical_by source) (weights_by None source) false l) list in
     let noted : IsPairNote source c.in-Some.pair =
     pair_noted source c.in-Some.pair first second c.trail_of-trail.result items c.in-Some.ensures.first c.in-Some.ensures.second c.in-Some.ensures.trail
-    (c.in-Some.ensures.elements ∙ c.as_slice.ensures) (c.trail_of-trail.ensures items are) in
+    (c.in-Some.ensures.elements ∙ c.as_slice.ensures) (c.trail_of-trail.ensures items are first c.requires.full) in
     subst (λ (notes : List PairNote). All (IsPairNote source) notes) (sym c.in_ok-push-in-Some.ensures.items)
-    (All-push (IsPairNote source) c.args.pairs.now.items c.in-Some.pair c.requires noted)
+    (All-push (IsPairNote source) c.args.pairs.now.items c.in-Some.pair c.requires.noted noted)

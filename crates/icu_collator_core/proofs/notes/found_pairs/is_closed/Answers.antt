@@ -2,7 +2,7 @@ use Rattle.std.proofs.Common.{◌≡◌, None, rules, sym, true, ◌∙◌}
 use Rattle.icu_collator_core.specs.ReadSources.{weights_by}
 use Rattle.icu_collator_core.specs.ReadWords.{table_word}
 use Rattle.icu_collator_core.proofs.readings.PairLemmas.{closed_by}
-use Rattle.icu_collator_core.proofs.notes.pairs.is_closed.Goals as goal
+use Rattle.icu_collator_core.proofs.notes.found_pairs.is_closed.Goals as goal
 
 pub returns : goal.returns
 returns c = λ closed.
