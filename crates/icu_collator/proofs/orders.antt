@@ -4,6 +4,8 @@ pub mod TotalOrderLemmas
 pub mod CountedPrimaryLemmas
 pub mod OrderByFlatLemmas
 pub mod StretchedOrderLemmas
+pub mod AheadLemmas
+pub mod AheadOrderLemmas
 pub mod BoundaryOrderLemmas
 pub mod FlatListLemmas
 pub mod WeightOrderLemmas

@@ -26,4 +26,5 @@ pub mod TextsRead
 pub mod FlatOrders
 pub mod CommonBoundaries
 pub mod StretchedOrders
+pub mod Aheads
 pub mod ReadingPlaces

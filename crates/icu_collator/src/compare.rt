@@ -1,5 +1,6 @@
 //! The comparison of two texts.
 
+mod aheads;
 mod common;
 mod encoded;
 mod flat;

@@ -85,7 +85,7 @@ counted_same end xs ys e = counted_of_elements end xs ∙ ap (filter_map (primar
 
 -- ---- among all primaries
 
-abbrev counting : ℕ → List ℕ → List ℕ
+abbrev pub counting : ℕ → List ℕ → List ℕ
 counting end ps = filter_map (λ (p : ℕ). cond (does_count end p) (Some p) None) ps
 
 one_among : (end bits : ℕ) → counted_primaries end (bits ∷ []) ≡ counting end (primaries_in (bits ∷ []))
@@ -99,7 +99,7 @@ one_among end bits =
           sym (ap (counting end) one)
     ]
 
-counted_among : (end : ℕ) (items : List ℕ) → counted_primaries end items ≡ counting end (primaries_in items)
+pub counted_among : (end : ℕ) (items : List ℕ) → counted_primaries end items ≡ counting end (primaries_in items)
 counted_among end [] = refl
 counted_among end (bits ∷ items) =
     filter_map-append (counted_primary end) (bits ∷ []) items

@@ -58,7 +58,7 @@ module _ (source : CollationSource) where
 
   module _ (numeric : Option ℕ) (options : ResolvedCollatorOptions) (is : numeric ≡ numeric_by source options) (end : ℕ) (at : end ≡ variable_end_of collation options) where
     -- the primaries of a text whose elements begin with these
-    front_primaries : (text items : List ℕ) (more : List Element) → text_elements source numeric text ≡ unpacked items ++ more
+    pub front_primaries : (text items : List ℕ) (more : List Element) → text_elements source numeric text ≡ unpacked items ++ more
         → (rest : List ℕ) × ((levels_of_text collation options text).primaries ≡ moved_primaries source end items ++ rest)
     unfolding levels_of
     front_primaries text items more are =
@@ -66,7 +66,7 @@ module _ (source : CollationSource) where
         (primaries_of source options end at split.0 more, ap (primaries_of source options end at false) (by_options source numeric options is text ∙ are) ∙ split.1)
 
     -- those of a text with these elements
-    whole_of : (text items : List ℕ) → unpacked items ≡ text_elements source numeric text → (levels_of_text collation options text).primaries ≡ moved_primaries source end items
+    pub whole_of : (text items : List ℕ) → unpacked items ≡ text_elements source numeric text → (levels_of_text collation options text).primaries ≡ moved_primaries source end items
     unfolding levels_of counted_behind
     whole_of text items are =
         ap (primaries_of source options end at false) (by_options source numeric options is text ∙ sym are ∙ sym (append-nil (unpacked items)))
@@ -86,7 +86,7 @@ module _ (source : CollationSource) where
         )
 
     module _ (a b : List ℕ) where
-      order_by : (xs ys : List ℕ) (o : Ordering) → (levels_of_text collation options a).primaries ≡ xs → (levels_of_text collation options b).primaries ≡ ys
+      pub order_by : (xs ys : List ℕ) (o : Ordering) → (levels_of_text collation options a).primaries ≡ xs → (levels_of_text collation options b).primaries ≡ ys
           → list_order (λ w. w) xs ys ≡ o → o ≢ Equal → o ≡ collation_order collation options a b
       order_by xs ys o e f is decided =
           sym (first_decides options (levels_of_text collation options a) (levels_of_text collation options b) o (rw (e, f) is) decided)

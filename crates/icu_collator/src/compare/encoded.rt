@@ -7,14 +7,14 @@ ghost use Rattle.icu_collator.specs.Fronts.{PartAt};
 ghost use Rattle.icu_collator.specs.Order.{collation_order};
 ghost use Rattle.icu_collator.specs.ReadingPlaces.{IsCommonPlace};
 
-use super::flat_texts::compare_flat;
+use super::flat_texts::{compare_ahead, compare_flat};
 use super::fronts::difference_and_boundary;
 use super::iterators::compare_characters;
 use super::stretched::compare_stretched;
 use crate::common_front::{
     FirstDifference, behind, first_difference, order_by_difference, reading_place,
 };
-use crate::encodings::Characters;
+use crate::encodings::{Characters, PeekLow};
 use icu_collator_core::checked::CheckedTables;
 use icu_collator_types::options::ResolvedCollatorOptions;
 use std::alloc::{AllocError, Global};
@@ -82,7 +82,16 @@ fn compare_past<T: Characters, U: Characters>(
     Ok(order)
 }
 
-/// The order of two texts, where they first differ, or by reading both from a place before that. Fails only when out of memory.
+/// Whether a look tells that a text in UTF-8 may begin with a Hangul syllable: there the first letters that differ tell sooner than a
+/// look ahead.
+#[inline(always)]
+fn may_begin_with_syllable<T: Characters>(text: T) -> bool {
+    let chars = text.chars();
+    (0xEA..0xEE).contains(&chars.peek_low())
+}
+
+/// The order of two texts, each read with a look at the next character; or where they first differ, or by reading both from a place
+/// before that. Fails only when out of memory.
 #[inline(never)]
 fn compare_by_difference<T: Characters, U: Characters>(
     alloc: Global,
@@ -93,6 +102,11 @@ fn compare_by_difference<T: Characters, U: Characters>(
 ) -> Result<Ordering, AllocError>
     ensures { IfOk result (λ order. order ≡ collation_order (source_collation checked.now) options.now (T.characters left) (U.characters right)) }
 {
+    if !may_begin_with_syllable(left) {
+        if let Some(order) = compare_ahead(alloc, checked, options, left, right)? {
+            return Ok(order);
+        }
+    }
     let (difference, boundary) = difference_and_boundary(checked, left.chars(), right.chars());
     if let Some(order) = order_by_difference(checked, options, difference) {
         return Ok(order);

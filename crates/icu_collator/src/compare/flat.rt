@@ -126,7 +126,7 @@ fn next_primary<I: Iterator<Item = char> + Drop>(
 }
 
 /// Whether two texts that were read to what comes next in both part there: whether what they were read to stands, whatever else
-/// they hold. Then the text behind one may have been asked.
+/// they hold.
 #[inline(never)]
 fn part<I: Iterator<Item = char> + Drop, J: Iterator<Item = char> + Drop>(
     checked: &CheckedTables<'_>,
@@ -137,10 +137,10 @@ fn part<I: Iterator<Item = char> + Drop, J: Iterator<Item = char> + Drop>(
     right: J,
     left_class: u32,
     right_class: u32,
-) -> (bool, I, J)
+) -> bool
     requires left { (p : ℕ) → first ≡ Primary p → I.can_next left }
     requires right { (p : ℕ) → second ≡ Primary p → J.can_next right }
-    ensures { result.0 ≡ true → (a b lefts rights : List ℕ)
+    ensures { result ≡ true → (a b lefts rights : List ℕ)
         → IsNextPrimary checked.now numeric I.next_gives a lefts first left left_class
         → IsNextPrimary checked.now numeric J.next_gives b rights second right right_class
         → IsSettled checked.now numeric a lefts first × IsSettled checked.now numeric b rights second }
@@ -148,66 +148,57 @@ fn part<I: Iterator<Item = char> + Drop, J: Iterator<Item = char> + Drop>(
     let mut left = left;
     let mut right = right;
     if !checked.is_settled(numeric, first, &mut left, left_class) {
-        return (false, left, right);
+        return false;
     }
-    let right_stands = checked.is_settled(numeric, second, &mut right, right_class);
-    (right_stands, left, right)
+    checked.is_settled(numeric, second, &mut right, right_class)
 }
 
 /// What comes next in two texts, as it is before reordering, where both were read to behind it, each behind a character of a class:
-/// they part only if both primaries stand, whatever else the texts hold. Then the text behind one may have been asked.
+/// they part only if both primaries stand, whatever else the texts hold.
 #[inline(always)]
-fn meet_settled<I: Iterator<Item = char> + Drop, J: Iterator<Item = char> + Drop>(
+fn meet_settled<I: PeekLow + Drop, J: PeekLow + Drop>(
     checked: &CheckedTables<'_>,
     numeric: Option<u8>,
     first: FlatStep,
     second: FlatStep,
-    left: I,
-    right: J,
+    left: &I,
+    right: &J,
     left_class: u32,
     right_class: u32,
-) -> (Meeting, I, J)
-    requires left { (p : ℕ) → first ≡ Primary p → I.can_next left }
-    requires right { (p : ℕ) → second ≡ Primary p → J.can_next right }
-    ensures meets { IsMeeting checked.now first second result.0 }
-    ensures settled { (a b lefts rights : List ℕ) → IsNextPrimary checked.now numeric I.next_gives a lefts first left left_class
-        → IsNextPrimary checked.now numeric J.next_gives b rights second right right_class
-        → AreSettled checked.now numeric a b lefts rights first second result.0 }
-    ensures left_kept { result.0 ≡ Alike → result.1 ≡ left }
-    ensures right_kept { result.0 ≡ Alike → result.2 ≡ right }
+) -> Meeting
+    requires left { (p : ℕ) → first ≡ Primary p → I.can_next left.now }
+    requires right { (p : ℕ) → second ≡ Primary p → J.can_next right.now }
+    ensures meets { IsMeeting checked.now first second result }
+    ensures settled { (a b lefts rights : List ℕ) → IsNextPrimary checked.now numeric I.next_gives a lefts first left.now left_class
+        → IsNextPrimary checked.now numeric J.next_gives b rights second right.now right_class
+        → AreSettled checked.now numeric a b lefts rights first second result }
 {
     let meeting = meet(checked, first, second);
-    match meeting {
-        Meeting::Parted(_order) => {
-            if left_class < 256 && right_class < 256 {
-                return (meeting, left, right);
-            }
-            let (stands, left, right) = part(
-                checked,
-                numeric,
-                first,
-                second,
-                left,
-                right,
-                left_class,
-                right_class,
-            );
-            if stands {
-                (meeting, left, right)
-            } else {
-                (Meeting::Stopped, left, right)
-            }
+    if let Meeting::Parted(_order) = meeting {
+        if left_class < 256 && right_class < 256 {
+            return meeting;
         }
-        Meeting::Alike => (Meeting::Alike, left, right),
-        Meeting::BothEnd => (Meeting::BothEnd, left, right),
-        Meeting::Stopped => (Meeting::Stopped, left, right),
+        let stands = part(
+            checked,
+            numeric,
+            first,
+            second,
+            left.again(),
+            right.again(),
+            left_class,
+            right_class,
+        );
+        if !stands {
+            return Meeting::Stopped;
+        }
     }
+    meeting
 }
 
 /// What the next primaries that count say of two texts that were read up to such that are alike, each behind a character of a class;
 /// with the texts behind these primaries, and the classes of the last characters. No memory is taken.
 #[inline(always)]
-fn meet_next<I: Iterator<Item = char> + Drop, J: Iterator<Item = char> + Drop>(
+fn meet_next<I: PeekLow + Drop, J: PeekLow + Drop>(
     checked: &CheckedTables<'_>,
     end: u32,
     numeric: Option<u8>,
@@ -228,8 +219,15 @@ fn meet_next<I: Iterator<Item = char> + Drop, J: Iterator<Item = char> + Drop>(
 {
     let (one, left_rest, left_last) = next_primary(checked, end, numeric, left, left_class);
     let (two, right_rest, right_last) = next_primary(checked, end, numeric, right, right_class);
-    let (meeting, left_rest, right_rest) = meet_settled(
-        checked, numeric, one, two, left_rest, right_rest, left_last, right_last,
+    let meeting = meet_settled(
+        checked,
+        numeric,
+        one,
+        two,
+        &left_rest,
+        &right_rest,
+        left_last,
+        right_last,
     );
     (meeting, left_rest, right_rest, left_last, right_last)
 }
@@ -300,9 +298,7 @@ fn meet_characters<I: PeekLow + Drop, J: PeekLow + Drop>(
     }
     let one = FlatStep::Primary(first.0);
     let two = FlatStep::Primary(second.0);
-    let (meeting, left, right) = meet_settled(
-        checked, numeric, one, two, left, right, first.1, second.1,
-    );
+    let meeting = meet_settled(checked, numeric, one, two, &left, &right, first.1, second.1);
     (Some(meeting), left, right, first.1, second.1)
 }
 
@@ -392,7 +388,15 @@ fn by_further_primaries<I: PeekLow + Drop, J: PeekLow + Drop>(
     }
 }
 
-/// Reads two texts side by side as long as their primaries that count are alike. No memory is taken.
+/// Whether a look tells that a character of three or four bytes of UTF-8 comes next: those of many scripts are read faster with a look
+/// at the next one (Thai names 1.5 to 1.6 times as fast).
+#[inline(always)]
+fn is_long(low: u8) -> bool {
+    (0xE0..0xF8).contains(&low)
+}
+
+/// Reads two texts side by side as long as their primaries that count are alike, if they don't go on with long characters behind what
+/// a look tells. No memory is taken.
 #[inline(always)]
 pub(super) fn by_primaries<I: PeekLow + Drop, J: PeekLow + Drop>(
     checked: &CheckedTables<'_>,
@@ -411,6 +415,9 @@ pub(super) fn by_primaries<I: PeekLow + Drop, J: PeekLow + Drop>(
     let (left, right, class) = pass_low(checked, left, right, 0);
     if let Some(order) = order_by_low(checked, end, &left, &right) {
         return ByPrimaries::Decided(order);
+    }
+    if is_long(left.peek_low()) || is_long(right.peek_low()) {
+        return ByPrimaries::NotFlat;
     }
     by_further_primaries(checked, end, numeric, left, right, class, class)
 }

@@ -1,12 +1,15 @@
 //! The comparison of two texts that are read flat: by their primaries, then by the elements behind these.
 
-ghost use Rattle.std.specs.Prelude.{◌≡◌, ◌≤◌, IfOk, IfSome, drop, false, length};
+ghost use Rattle.std.specs.Prelude.{◌≡◌, ◌≤◌, [], IfOk, IfSome, drop, false, length, true};
+ghost use Rattle.icu_collator_core.specs.ElementLists.{unpacked};
+ghost use Rattle.icu_collator_core.specs.ElementTexts.{text_elements};
 ghost use Rattle.icu_collator.specs.Collators.{source_collation};
 ghost use Rattle.icu_collator_types.specs.Options.{is_at_least, is_shifted};
 ghost use Rattle.icu_collator_types.specs.declared.options.Strength.TheVariants.{Identical};
 ghost use Rattle.icu_collator.specs.FlatOrders.{HaveSamePrimaries};
 ghost use Rattle.icu_collator.specs.Order.{collation_order};
 
+use super::aheads::by_aheads;
 use super::flat::{ByPrimaries, by_characters, by_primaries};
 use super::weights::compare_behind_primaries;
 use crate::common_front::behind;
@@ -22,8 +25,31 @@ use std::cmp::Ordering;
 /// How many elements of each text are kept for the levels behind the primaries.
 const KEPT: usize = 64;
 
+/// Reads what stands in a text behind so many characters into an empty list: flat, or else by stretches; `false` where it can't be read
+/// so, or has more elements than the list has room for. Fails only when out of memory.
+#[inline(always)]
+fn read_kept<T: Characters>(
+    alloc: Global,
+    checked: &CheckedTables<'_>,
+    numeric: Option<u8>,
+    text: T,
+    place: usize,
+    elements: &mut FlatElements<KEPT>,
+) -> Result<bool, AllocError>
+    requires reaches { place ≤ length (T.characters text) }
+    requires empty { elements.old.items ≡ [] }
+    ensures { IfOk result (λ is_read. is_read ≡ true → unpacked elements.new.items ≡ text_elements checked.now numeric (drop place (T.characters text))) }
+{
+    if checked.read_flat(numeric, behind(text.chars(), place), elements) {
+        return Ok(true);
+    }
+    let chars = behind(text.chars(), place);
+    let is_read = checked.read_stretches(alloc, numeric, chars, elements)?;
+    Ok(is_read)
+}
+
 /// The order of what stands in two texts with the same primaries behind so many characters, by the levels behind these, if both
-/// are read flat and have few elements: `None` for others. Fails only when out of memory.
+/// can be read so and have few elements: `None` for others. Fails only when out of memory.
 #[inline(never)]
 fn compare_kept<T: Characters, U: Characters>(
     alloc: Global,
@@ -43,11 +69,11 @@ fn compare_kept<T: Characters, U: Characters>(
 {
     let numeric = numeric_lead(checked, options);
     let mut lefts = FlatElements::<KEPT>::new();
-    if !checked.read_flat(numeric, behind(left.chars(), place), &mut lefts) {
+    let mut rights = FlatElements::<KEPT>::new();
+    if !read_kept(alloc, checked, numeric, left, place, &mut lefts)? {
         return Ok(None);
     }
-    let mut rights = FlatElements::<KEPT>::new();
-    if !checked.read_flat(numeric, behind(right.chars(), place), &mut rights) {
+    if !read_kept(alloc, checked, numeric, right, place, &mut rights)? {
         return Ok(None);
     }
     let left = ReadText {
@@ -141,6 +167,37 @@ pub(super) fn compare_flat<T: Characters, U: Characters>(
         ByPrimaries::NotFlat => Ok(None),
         ByPrimaries::Same => {
             let answer = compare_same(alloc, checked, options, left, right, place)?;
+            Ok(answer)
+        }
+    }
+}
+
+/// The order of two texts, if both are read with a look at the next character as far as it takes: `None` for others, and where numbers
+/// are read. Fails only when out of memory.
+#[inline(never)]
+pub(super) fn compare_ahead<T: Characters, U: Characters>(
+    alloc: Global,
+    checked: &CheckedTables<'_>,
+    options: &ResolvedCollatorOptions,
+    left: T,
+    right: U,
+) -> Result<Option<Ordering>, AllocError>
+    ensures { IfOk result (λ answer. IfSome answer (λ order.
+        order ≡ collation_order (source_collation checked.now) options.now (T.characters left) (U.characters right))) }
+{
+    let numeric = numeric_lead(checked, options);
+    if numeric.is_some() {
+        return Ok(None);
+    }
+    let end = variable_end(checked, options);
+    match by_aheads(checked, end, numeric, left.chars(), right.chars()) {
+        ByPrimaries::Decided(order) => Ok(Some(order)),
+        ByPrimaries::NotFlat => Ok(None),
+        ByPrimaries::Same => {
+            if !is_unshifted(options) {
+                return Ok(None);
+            }
+            let answer = compare_same(alloc, checked, options, left, right, 0)?;
             Ok(answer)
         }
     }
