@@ -389,7 +389,7 @@ fn by_further_primaries<I: PeekLow + Drop, J: PeekLow + Drop>(
 }
 
 /// Whether a look tells that a character of three or four bytes of UTF-8 comes next: those of many scripts are read faster with a look
-/// at the next one (Thai names 1.5 to 1.6 times as fast).
+/// at the next one (Thai names 1.3 to 1.5 times as fast).
 #[inline(always)]
 fn is_long(low: u8) -> bool {
     (0xE0..0xF8).contains(&low)
