@@ -7,7 +7,7 @@ use Rattle.collate_choice.specs.declared.given.GivenOptions.{GivenOptions}
 use Rattle.collate_choice.specs.declared.option_words.GivenOption.{GivenOption}
 use Rattle.collate_choice.specs.declared.option_words.GivenOption.TheVariants.{GivenStrength, GivenHandling, GivenVariable, GivenCaseLevel, GivenCaseFirst, GivenOrdering}
 
--- the same behind others
+-- the same after others
 behind : (front more old : List GivenOption) (option : GivenOption) → IsPermutation more (option ∷ old) → IsPermutation (front ++ more) (option ∷ (front ++ old))
 behind front more old option h =
     IsPermutation-trans (front ++ more) (front ++ (option ∷ old)) (option ∷ (front ++ old)) (IsPermutation-append_right front more (option ∷ old) h) (IsPermutation-middle front option old)

@@ -19,17 +19,17 @@ use Rattle.collate_choice.proofs.ChoiceNameLemmas.{count-words, is_same_option, 
 pub no-words : (given : GivenOptions) → given_options given ≡ [] → AreWordsOf given []
 no-words given none = record { options = []; words_are = refl; in_any_order = rw none (IsPermutation-refl []) }
 
-module _ (words : List (List ℕ)) (place : ℕ) (within : place < length words) (option : GivenOption) (is : get_or words place [] ≡ option_word option) where
+module _ (words : List (List ℕ)) (index : ℕ) (within : index < length words) (option : GivenOption) (is : get_or words index [] ≡ option_word option) where
   -- a word more
-  pub words-more : (given : GivenOptions) → has_value given option ≡ false → AreWordsOf given (take place words) → AreWordsOf (with_value given option) (take (place + 1) words)
+  pub words-more : (given : GivenOptions) → has_value given option ≡ false → AreWordsOf given (take index words) → AreWordsOf (with_value given option) (take (index + 1) words)
   words-more given new before =
       let options = before.options in
       let more = given_options (with_value given option) in
       record {
         options = options ++ option ∷ [];
         words_are =
-            take_more words place [] within
-            ∙ ap (λ (front : List (List ℕ)). front ++ get_or words place [] ∷ []) before.words_are
+            take_more words index [] within
+            ∙ ap (λ (front : List (List ℕ)). front ++ get_or words index [] ∷ []) before.words_are
             ∙ ap (λ (word : List ℕ). map option_word options ++ word ∷ []) is
             ∙ sym (map-append option_word options (option ∷ []));
         in_any_order =
@@ -40,7 +40,7 @@ module _ (words : List (List ℕ)) (place : ℕ) (within : place < length words)
             (IsPermutation-sym (options ++ option ∷ []) (option ∷ options) (IsPermutation-to_front options option)));
       }
 
-  passes : is_word_for option (get_or words place []) ≡ true
+  passes : is_word_for option (get_or words index []) ≡ true
   passes = rw (is, name_in-word option) ((bytes_eq-Decides (option_name option) (option_name option)).1 refl)
 
   -- how often these words have the name of the option is how often the options that they give do
@@ -49,24 +49,24 @@ module _ (words : List (List ℕ)) (place : ℕ) (within : place < length words)
       ap (count_by (is_word_for option)) h.words_are ∙ count-words option h.options ∙ sum_by-IsPermutation (λ (other : GivenOption). cond (is_same_option option other) 1 0) (given_options given) h.options h.in_any_order
 
   -- a second word for an option
-  pub words-twice : (given : GivenOptions) → has_value given option ≡ true → AreWordsOf given (take place words) → (all : GivenOptions) → AreWordsOf all words → ⊥
+  pub words-twice : (given : GivenOptions) → has_value given option ≡ true → AreWordsOf given (take index words) → (all : GivenOptions) → AreWordsOf all words → ⊥
   words-twice given held before all whole =
       let test = is_word_for option in
       omega (
         arith,
-        count_by_more_yes test words place [] within passes,
-        sum_by-take-drop (λ (word : List ℕ). cond (test word) 1 0) words (place + 1),
-        counted given (take place words) before,
+        count_by_more_yes test words index [] within passes,
+        sum_by-take-drop (λ (word : List ℕ). cond (test word) 1 0) words (index + 1),
+        counted given (take index words) before,
         one-given given option held,
         counted all words whole,
         one-at-most all option,
       )
 
 -- a word that gives no option
-pub words-other : (words : List (List ℕ)) (place : ℕ) → place < length words → ((option : GivenOption) → get_or words place [] ≢ option_word option) → (all : GivenOptions) → AreWordsOf all words → ⊥
-words-other words place within none all whole =
+pub words-other : (words : List (List ℕ)) (index : ℕ) → index < length words → ((option : GivenOption) → get_or words index [] ≢ option_word option) → (all : GivenOptions) → AreWordsOf all words → ⊥
+words-other words index within none all whole =
     let some = GivenCaseLevel Off in
     let size : length words ≡ length whole.options = ap length whole.words_are ∙ length-map whole.options option_word in
-    let inside : place < length whole.options = omega (arith, size) in
-    none (get_or whole.options place some)
-    (ap (λ (ws : List (List ℕ)). get_or ws place []) whole.words_are ∙ get_or-map option_word whole.options place some [] inside)
+    let inside : index < length whole.options = omega (arith, size) in
+    none (get_or whole.options index some)
+    (ap (λ (ws : List (List ℕ)). get_or ws index []) whole.words_are ∙ get_or-map option_word whole.options index some [] inside)

@@ -23,7 +23,7 @@ pub record AreBeginnings (layer : Layer) (lines : List Record) (cs : List ℕ) :
 abbrev pub begun_sum : (Record → ℕ) → List Record → ℕ → ℕ
 begun_sum taken lines c = sum_by (λ line. cond (begins_line c line) (taken line) 0) lines
 
--- how many elements they give, and how many of them have texts of several characters or behind a prefix
+-- how many elements they give, and how many of them have texts of several characters or after a prefix
 abbrev pub elements_begun : List Record → ℕ → ℕ
 elements_begun lines c = begun_sum (λ line. length (elements_of line)) lines c
 

@@ -31,9 +31,9 @@ abbrev pub gathered : {A : Type 0} → (A → Option SaidBeside) → List A → 
 gathered found [] saids = saids
 gathered found (x ∷ xs) saids = gathered found xs (with_found saids (found x))
 
--- ## What stands behind a character, and before it
+-- ## What stands after a character, and before it
 
--- what a key and its elements say of a character with others behind it
+-- what a key and its elements say of a character with others after it
 abbrev pub suffix_of : ℕ → List ℕ → List ℕ → List Element → Option SaidBeside
 suffix_of c [] (d ∷ e ∷ ds) es = cond (c == d) (Some (record { characters = e ∷ ds; elements = es })) None
 suffix_of c _ _ es = None

@@ -1,4 +1,4 @@
--- A layer in the making: the words of characters, and the lists that they name places in.
+-- A layer in the making: the words of characters, and the lists that they name indices in.
 use Rattle.std.specs.Prelude.{◌≡◌, ℕ, ◌+◌, ◌≤◌, Bool, false, ◌==◌, List, length, MatchBool, MatchOption, Option, option_map}
 use Rattle.std.specs.Char.{IsScalar}
 use Rattle.std.specs.List.{list_any}

@@ -2,7 +2,7 @@
 use Rattle.std.specs.Prelude.{◌≡◌, ℕ, List, IsTrue, MatchBool, MatchOption}
 use Rattle.std.specs.Char.{IsScalar}
 use Rattle.icu_codepointtrie.specs.declared.trie.TrieType.{TrieType}
-use Rattle.icu_codepointtrie.specs.Places.{has_cell}
+use Rattle.icu_codepointtrie.specs.Slots.{has_cell}
 use Rattle.icu_collator_core.specs.declared.tables.data.CollationData.{CollationData}
 use Rattle.icu_collator_core.specs.TableMeaning.{fallback, pools_of, word_at}
 use Rattle.icu_collator_core.specs.UnrecordedWords.{implicit}

@@ -12,7 +12,7 @@ use icu_collator_types::elements::Element;
 use std::alloc::{AllocError, Global};
 use std::collections::BTreeSet;
 
-/// What a key and its elements say of a character with others behind it.
+/// What a key and its elements say of a character with others after it.
 fn suffix_of<'a>(
     c: char,
     prefix: &[char],
@@ -54,7 +54,7 @@ fn prefix_of<'a>(
     }
 }
 
-/// What a line of a layer says of a character with others behind it.
+/// What a line of a layer says of a character with others after it.
 fn suffix_in<'a>(line: &'a Record, of_layer: Layer, c: char) -> Option<Beside<'a>>
     ensures { option_map said_beside result ≡ suffix_in (layer_of of_layer) c (said line.now) }
 {
@@ -123,7 +123,7 @@ fn add_found<'a>(
     }
 }
 
-/// Adds what lines of a layer say of a character with others behind it.
+/// Adds what lines of a layer say of a character with others after it.
 ///
 /// Errors: `AllocError` where memory is refused.
 fn add_suffixes<'a>(
@@ -165,7 +165,7 @@ fn add_prefixes<'a>(
     Ok(())
 }
 
-/// What lines say of a character with others behind it; a line of the tailoring comes first.
+/// What lines say of a character with others after it; a line of the tailoring comes first.
 ///
 /// Errors: `AllocError` where memory is refused.
 pub(crate) fn suffixes_in<'a>(

@@ -1,10 +1,10 @@
-//! A layer in the making: the words of characters, and the lists that they name places in.
+//! A layer in the making: the words of characters, and the lists that they name indices in.
 
 ghost use Rattle.std.specs.Prelude.{◌≡◌, ℕ, ◌+◌, ◌≤◌, ◌==◌, true, [], length, IfOk, OnOk};
 ghost use Rattle.std.specs.Char.{IsScalar};
 ghost use Rattle.icu_codepointtrie.specs.Blocks.{different_blocks, upper_blocks};
 ghost use Rattle.icu_codepointtrie.specs.BuiltTries.{IsTrieOf};
-ghost use Rattle.icu_codepointtrie.specs.Places.{has_cell};
+ghost use Rattle.icu_codepointtrie.specs.Slots.{has_cell};
 ghost use Rattle.icu_normalizer_core.specs.BuiltIn.{is_within};
 ghost use Rattle.icu_collator_core.specs.TableMeaning.{pools_of, word_at};
 ghost use Rattle.collate_words.specs.Entries.{saying_of};
@@ -26,7 +26,7 @@ use std::alloc::{AllocError, Global};
 pub(crate) struct LayerBuilder {
     /// The words.
     pub(crate) words: CodePointTrieBuilder<u32>,
-    /// The lists that words name places in.
+    /// The lists that words name indices in.
     pub(crate) pools: Pools,
 }
 

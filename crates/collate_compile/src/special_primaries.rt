@@ -17,8 +17,8 @@ use std::alloc::{AllocError, Global};
 /// Which of 16 leads are compressible: a bit for each, the lowest for the first.
 fn compressible_bits(lines: &[Record], part: u8) -> u16
     requires { part < 16 }
-    ensures { (place : ℕ) → place < 16
-        → has_bit place result ≡ is_compressible_in (map said lines.now) (16 * part + place) }
+    ensures { (index : ℕ) → index < 16
+        → has_bit index result ≡ is_compressible_in (map said lines.now) (16 * part + index) }
 {
     let mut bits: u16 = 0;
     for i in 0..16u8 {

@@ -28,7 +28,7 @@ fn nothing_known(alloc: Global) -> Result<Vec<Option<bool>>, AllocError>
     ensures room { IfOk result (λ known. length known.items ≡ 0x110000) }
 {
     let mut known = Vec::with_capacity(alloc, CODE_POINTS)?;
-    'places: for _ in 0..CODE_POINTS {
+    'characters: for _ in 0..CODE_POINTS {
         known.push(None)?;
     }
     Ok(known)

@@ -13,7 +13,7 @@ ghost use Rattle.collate_name_list.specs.StoredNames.{names_of};
 ghost use Rattle.collate_records.specs.Files.{IsAcceptedWithin};
 ghost use Rattle.collate_rules.specs.Meaning.{collation_of};
 ghost use Rattle.collate_lists.specs.Names.{equal_names, names_between};
-ghost use Rattle.collate_lists.specs.Search.{IsPlaceOf};
+ghost use Rattle.collate_lists.specs.Search.{IsRankOf};
 ghost use Rattle.collate_index.specs.Catalogue.{AreDistinct, meaning_in, opened, options_in, order_of, preferences_of, reloaded, sorted_names, with_name, without_name};
 ghost use Rattle.collate_index.specs.Keys.{IsKeyOf};
 ghost use Rattle.collate_index.specs.Reloads.{AreKeysMade, IsRefused};
@@ -184,7 +184,7 @@ impl Index {
         Ok(made)
     }
 
-    /// The places of the names that compare as equal to a name, `0..0` if there are none, and how many comparisons of
+    /// The ranks of the names that compare as equal to a name, `0..0` if there are none, and how many comparisons of
     /// keys that took: at most twice as many as the number of names has binary digits, and one at least if there are
     /// names (docs/DECISIONS.md, "Index"). A key is made only for a name that isn't there.
     ///
@@ -206,25 +206,25 @@ impl Index {
         }
     }
 
-    /// The places of the names that are neither below the first of two names nor above the last, `0..0` if there are none,
+    /// The ranks of the names that are neither below the first of two names nor above the last, `0..0` if there are none,
     /// as where the first is above the last.
     ///
     /// Errors: `AllocError` where memory is refused.
     pub fn between(&self, first: &[u8], last: &[u8]) -> Result<Range<usize>, AllocError>
-        ensures bound { IfOk result (λ places. (places.start ≤ places.end) × (places.end ≤ length (sorted_names self.now))) }
-        ensures names { IfOk result (λ places. slice_range (sorted_names self.now) places.start places.end ≡ names_between (order_of self.now) first.now last.now (sorted_names self.now)) }
-        ensures none { IfOk result (λ places. places.start ≡ places.end → places.end ≡ 0) }
+        ensures bound { IfOk result (λ ranks. (ranks.start ≤ ranks.end) × (ranks.end ≤ length (sorted_names self.now))) }
+        ensures names { IfOk result (λ ranks. slice_range (sorted_names self.now) ranks.start ranks.end ≡ names_between (order_of self.now) first.now last.now (sorted_names self.now)) }
+        ensures none { IfOk result (λ ranks. ranks.start ≡ ranks.end → ranks.end ≡ 0) }
     {
         let mut keys = 0;
         let lowest = self.make_key(first, &mut keys)?;
         let highest = self.make_key(last, &mut keys)?;
         let mut comparisons = 0;
-        let start = self.names.place(&lowest, false, &mut comparisons);
-        let end = self.names.place(&highest, true, &mut comparisons);
+        let start = self.names.rank(&lowest, false, &mut comparisons);
+        let end = self.names.rank(&highest, true, &mut comparisons);
         Ok(range_between(start, end))
     }
 
-    /// The name at a place of the order, counted from 0; `None` past the last.
+    /// The name at a rank of the order, counted from 0; `None` past the last.
     pub fn get(&self, i: usize) -> Option<&[u8]>
         ensures { option_copied result ≡ slice_get (sorted_names self.now) i }
     {
@@ -299,7 +299,7 @@ impl Index {
     }
 }
 
-/// The places from a start to an end, and none as `0..0`, also where the end is before the start.
+/// The ranks from a start to an end, and none as `0..0`, also where the end is before the start.
 fn range_between(start: usize, end: usize) -> Range<usize>
     ensures range { result.start ≤ result.end }
     ensures bound { result.end ≤ end }
@@ -313,7 +313,7 @@ fn range_between(start: usize, end: usize) -> Range<usize>
 /// What a search has found.
 #[derive(Clone, Debug, Drop)]
 pub struct Found {
-    /// The places of the equal names in the order; `0..0` if there are none.
+    /// The ranks of the equal names in the order; `0..0` if there are none.
     pub names: Range<usize>,
     /// How many comparisons of keys were made.
     pub comparisons: usize,

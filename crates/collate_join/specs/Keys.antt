@@ -14,12 +14,12 @@ end_of byte bytes = position_or_len (λ b. b == byte) bytes
 abbrev pub begins : List ℕ → List ℕ → Bool
 begins line word = starts_with nat_eq line word
 
--- where the second space stands, or behind the end
+-- where the second space stands, or after the end
 abbrev pub second_space : List ℕ → ℕ
 second_space line = end_of 32 line + 1 + end_of 32 (drop (end_of 32 line + 1) line)
 
 -- The key of a line, what it is for, by its kind: of weights prefix and text, before the semicolon; of a class, a mapping, a
--- digit or a setting the field behind the kind. An empty line, a comment and a range have none.
+-- digit or a setting the field after the kind. An empty line, a comment and a range have none.
 abbrev pub key_of : List ℕ → Option (List ℕ)
 key_of line =
     if begins line (codes "w ") || begins line (codes "t ") then Some (take (end_of 59 line) line)
@@ -30,7 +30,7 @@ key_of line =
 abbrev pub weighed_by : List ℕ → Option (List ℕ)
 weighed_by line = if begins line (codes "w ") then Some (take (end_of 59 (drop 1 line) - 1) (drop 1 line)) else None
 
--- what a line of a tailoring leaves out: what stands behind `# without`
+-- what a line of a tailoring leaves out: what stands after `# without`
 abbrev pub left_out_by : List ℕ → Option (List ℕ)
 left_out_by line = if begins line (codes "# without") then Some (drop 9 line) else None
 
@@ -54,6 +54,6 @@ abbrev pub has_any : Part → List (List ℕ) → Option (List ℕ) → Bool
 has_any part lines None = false
 has_any part lines (Some bytes) = has_part part lines bytes
 
--- whether what stands behind `# without` is a prefix and a text, as in a line of weights
+-- whether what stands after `# without` is a prefix and a text, as in a line of weights
 abbrev pub is_key : List ℕ → Bool
 is_key part = is_some (record_of (codes "w" ++ part ++ codes " ;"))

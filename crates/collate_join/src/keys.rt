@@ -25,7 +25,7 @@ pub(crate) enum Part {
 
 /// Where a byte stands first.
 fn position_of(bytes: &[u8], byte: u8) -> Option<usize>
-    ensures place { result ≡ position (λ b. b == byte) bytes.now }
+    ensures index { result ≡ position (λ b. b == byte) bytes.now }
     ensures within { IfSome result (λ end. end < length bytes.now) }
 {
     bytes.iter().position(|b| *b == byte)
@@ -33,7 +33,7 @@ fn position_of(bytes: &[u8], byte: u8) -> Option<usize>
 
 /// Where a byte stands first, or the length.
 fn end_of(bytes: &[u8], byte: u8) -> usize
-    ensures place { result ≡ end_of byte bytes.now }
+    ensures index { result ≡ end_of byte bytes.now }
     ensures within { result ≤ length bytes.now }
 {
     match position_of(bytes, byte) {
@@ -83,7 +83,7 @@ fn weighed_by(line: &[u8]) -> Option<&[u8]>
     Some(before_semicolon(&line[1..]))
 }
 
-/// What a line `# without` leaves out: what stands behind these words.
+/// What a line `# without` leaves out: what stands after these words.
 pub(crate) fn left_out_by(line: &[u8]) -> Option<&[u8]>
     ensures { option_map (λ part. part.now) result ≡ left_out_by line.now }
 {
@@ -104,7 +104,7 @@ pub(crate) fn part_of(part: Part, line: &[u8]) -> Option<&[u8]>
     }
 }
 
-/// Whether what stands behind `# without` is a prefix and a text, as in a line of weights.
+/// Whether what stands after `# without` is a prefix and a text, as in a line of weights.
 ///
 /// Errors: `AllocError` where memory is refused.
 pub(crate) fn is_key(alloc: Global, part: &[u8]) -> Result<bool, AllocError>

@@ -164,7 +164,7 @@ fn kept_lines<'a>(
     Ok(kept)
 }
 
-/// The lines of the root that stay beside those of a tailoring, with the bytes of the tailoring behind them.
+/// The lines of the root that stay beside those of a tailoring, with the bytes of the tailoring after them.
 fn written<'a>(
     alloc: Global,
     root: &[&'a [u8]],

@@ -10,7 +10,7 @@ use Rattle.collate_keyed_lines.proofs.SlotLemmas.{bounds_more, lines_more, slots
 
 module _ (s t : Inside) (kept : IsKept s) (more : List ℕ) (b : Bounds) (slot : Slot)
     (bytes : t.bytes.items ≡ s.bytes.items ++ more) (bounds : t.bounds.items ≡ s.bounds.items ++ b ∷ []) (slots : t.slots.items ≡ s.slots.items ++ slot ∷ [])
-    (within : AreWithin t.bytes.items b) (at : slot.place ≡ length s.bounds.items) (front : IsFrontOf slot.front (line_between t.bytes.items b).key) where
+    (within : AreWithin t.bytes.items b) (at : slot.index ≡ length s.bounds.items) (front : IsFrontOf slot.front (line_between t.bytes.items b).key) where
   abbrev all_bytes : List ℕ
   all_bytes = s.bytes.items ++ more
 

@@ -71,12 +71,12 @@ module _ {A : Type 0} (R : A → A → Ordering) (o : IsTotalOrder R) where
   above_differs k x Equal e h n y up = absurd (true≢false n)
   above_differs k x Greater e h n y up = absurd (true≢false h)
 
-  -- what may stand behind the second may stand behind the first
+  -- what may stand after the second may stand after the first
   rises_past : (k x : A) (xs : List A) → Rises R o (k ∷ x ∷ xs) → Rises R o (k ∷ xs)
   rises_past k x [] r = (tt, tt)
   rises_past k x (y ∷ ys) r = (upto_chain R o k x y r.0 r.1.0, r.1.1)
 
-  -- those behind one that is equal are the same without it
+  -- those after one that is equal are the same without it
   kept_out : (k x : A) (F : List A) → is_equal (R x k) ≡ true → filter (differs_from k) (x ∷ filter (differs_from x) F) ≡ filter (differs_from k) F
   kept_out k x F e =
       let inside : List A = filter (differs_from k) (filter (differs_from x) F) in
@@ -84,7 +84,7 @@ module _ {A : Type 0} (R : A → A → Ordering) (o : IsTotalOrder R) where
       ∙ ap (filter (differs_from k)) (filter_alike (differs_from x) (differs_from k) (λ y. sym (differs_alike k x e y)) F)
       ∙ filter_twice (differs_from k) x F
 
-  -- those behind one that is above all differ
+  -- those after one that is above all differ
   kept_in : (k x : A) (xs : List A) → Rises R o (k ∷ x ∷ xs) → is_equal (R x k) ≡ false
       → filter (differs_from k) (x ∷ filter (differs_from x) (first_of_equals R xs)) ≡ x ∷ filter (differs_from x) (first_of_equals R xs)
   kept_in k x xs r e =

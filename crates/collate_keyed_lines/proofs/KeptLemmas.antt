@@ -24,7 +24,7 @@ use Rattle.collate_keyed_lines.proofs.SlotLemmas.{compare_alike, key_order_total
 
 -- a slot for the want of one
 abbrev no_slot : Slot
-no_slot = record { front = 0; place = 0 }
+no_slot = record { front = 0; index = 0 }
 
 -- what holds of values holds of them in order, and where they stand as before
 pub sorted_all : {A T E : Type 0} (R : A → A → Ordering) (P : A → Type 0) (result : Result T E) (xs ys : List A) → OnOk result (ys ≡ in_order R xs) → OnErr result (ys ≡ xs) → All P xs → All P ys
@@ -107,18 +107,18 @@ module _ (s : Inside) (kept : IsKept s) (now : List KeyedLine) (is : lines_insid
         → IfSome result (IsFirstUnordered unique (turned d key_order) now)
     unordered_first told =
         IfSome_then result told
-        (λ place h. subst (λ (lines : List KeyedLine). IsFirstUnordered unique (turned d key_order) lines place) is
-        (unordered_mapped stands of (turned d order) (turned d key_order) (turned_alike s.bytes.items s.bounds.items d) no_slot unique s.slots.items kept.slots place
-        (subst (λ (ss : List Slot). IsFirstUnordered unique (turned d (slot_order s.bytes.items s.bounds.items)) ss place) same_slots
-        (lent (λ bs cs. IsFirstUnordered unique (turned d (slot_order bs cs)) slots place) h))))
+        (λ index h. subst (λ (lines : List KeyedLine). IsFirstUnordered unique (turned d key_order) lines index) is
+        (unordered_mapped stands of (turned d order) (turned d key_order) (turned_alike s.bytes.items s.bounds.items d) no_slot unique s.slots.items kept.slots index
+        (subst (λ (ss : List Slot). IsFirstUnordered unique (turned d (slot_order s.bytes.items s.bounds.items)) ss index) same_slots
+        (lent (λ bs cs. IsFirstUnordered unique (turned d (slot_order bs cs)) slots index) h))))
 
-  -- what stands at a place is what the slot there stands for
-  pub found_at : {B : Type 0} (part : KeyedLine → B) (slots : List Slot) (same_slots : slots ≡ s.slots.items) (place : ℕ) (slot : Slot) (found : B)
-      → found ≡ part (line_of bytes bounds slot) → Some slot ≡ slice_get slots place → Some found ≡ slice_get (map part now) place
-  found_at part slots same_slots place slot found told at =
-      sym (slice_get-map part now place
-      ∙ ap (λ (lines : List KeyedLine). option_map part (slice_get lines place)) (sym is)
-      ∙ ap (option_map part) (slice_get-map stands s.slots.items place)
-      ∙ ap (λ (ss : List Slot). option_map part (option_map stands (slice_get ss place))) (sym same_slots)
+  -- what stands at an index is what the slot there stands for
+  pub found_at : {B : Type 0} (part : KeyedLine → B) (slots : List Slot) (same_slots : slots ≡ s.slots.items) (index : ℕ) (slot : Slot) (found : B)
+      → found ≡ part (line_of bytes bounds slot) → Some slot ≡ slice_get slots index → Some found ≡ slice_get (map part now) index
+  found_at part slots same_slots index slot found told at =
+      sym (slice_get-map part now index
+      ∙ ap (λ (lines : List KeyedLine). option_map part (slice_get lines index)) (sym is)
+      ∙ ap (option_map part) (slice_get-map stands s.slots.items index)
+      ∙ ap (λ (ss : List Slot). option_map part (option_map stands (slice_get ss index))) (sym same_slots)
       ∙ ap (λ (o : Option Slot). option_map part (option_map stands o)) (sym at)
       ∙ sym (ap (λ x. Some x) (lent (λ bs cs. found ≡ part (line_of bs cs slot)) told)))

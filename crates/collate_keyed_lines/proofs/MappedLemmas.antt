@@ -71,11 +71,11 @@ module _ {A B : Type 0} (f : A → B) (P : A → Type 0) (R : A → A → Orderi
     pub order_mapped : (end : ℕ) → end ≤ length xs → AreInOrder unique R xs end → AreInOrder unique S (map f xs) end
     order_mapped end within h = λ k e l. sym (follows_alike k e (omega arith)) ∙ h k none l
 
-    pub unordered_mapped : (place : ℕ) → IsFirstUnordered unique R xs place → IsFirstUnordered unique S (map f xs) place
-    unordered_mapped place first = record {
+    pub unordered_mapped : (index : ℕ) → IsFirstUnordered unique R xs index → IsFirstUnordered unique S (map f xs) index
+    unordered_mapped index first = record {
       behind = first.behind;
       within = omega (arith, first.within, length-map xs f);
-      before = order_mapped place (omega (arith, first.within)) first.before;
+      before = order_mapped index (omega (arith, first.within)) first.before;
       here = λ before e is.
           let at : before + 1 < length xs = omega (arith, first.within, is) in
           subst (λ (n : ℕ). may_follow unique (S (get_or (map f xs) before e) (get_or (map f xs) n e)) ≡ false) is

@@ -12,7 +12,7 @@ use Rattle.std.proofs.lemmas.List.{drop-append-le, get_or_append_left, take-appe
 use Rattle.std.proofs.lemmas.List.Elements.{All-head, All-push, All-tail, All-weaker}
 use Rattle.std.proofs.Math.Seq.{get_or-append_seam}
 use Rattle.collate_lists.specs.Fronts.{IsFrontOf}
-use Rattle.collate_lists.proofs.PlaceFrontLemmas.{fronts_tell}
+use Rattle.collate_lists.proofs.SlotFrontLemmas.{fronts_tell}
 use Rattle.collate_keyed_lines.specs.KeyedLines.{KeyedLine, key_order, turned}
 use Rattle.collate_keyed_lines.specs.Slots.{AreWithin, IsSlotOf, line_between, line_of, no_bounds, slot_order}
 use Rattle.collate_keyed_lines.specs.declared.direction.Direction.{Direction}
@@ -52,7 +52,7 @@ module _ (bytes : List ℕ) (bounds : List Bounds) where
 
 -- ---- one line more
 
--- bytes behind change no part of those before
+-- bytes after change no part of those before
 part_more : (bytes more : List ℕ) (start end : ℕ) → end ≤ length bytes → slice_range (bytes ++ more) start end ≡ slice_range bytes start end
 part_more bytes more start end within =
     ⊎_elim
@@ -82,7 +82,7 @@ map-push f [] x = refl
 map-push f (y ∷ ys) x = ap (λ zs. f y ∷ zs) (map-push f ys x)
 
 module _ (bytes more : List ℕ) (bounds : List Bounds) (slots : List Slot) (within : All (AreWithin bytes) bounds) (of : All (IsSlotOf bytes bounds) slots)
-    (b : Bounds) (slot : Slot) (in' : AreWithin (bytes ++ more) b) (at : slot.place ≡ length bounds) (front : IsFrontOf slot.front (line_between (bytes ++ more) b).key) where
+    (b : Bounds) (slot : Slot) (in' : AreWithin (bytes ++ more) b) (at : slot.index ≡ length bounds) (front : IsFrontOf slot.front (line_between (bytes ++ more) b).key) where
   abbrev all_bytes : List ℕ
   all_bytes = bytes ++ more
 
@@ -98,8 +98,8 @@ module _ (bytes more : List ℕ) (bounds : List Bounds) (slots : List Slot) (wit
 
   line_stays : (s : Slot) → IsSlotOf bytes bounds s → line_of all_bytes all_bounds s ≡ line_of bytes bounds s
   line_stays s is =
-      ap (line_between all_bytes) (get_or_append_left bounds (b ∷ []) no_bounds s.place is.within)
-      ∙ between_more bytes more (get_or bounds s.place no_bounds) (within s.place no_bounds is.within)
+      ap (line_between all_bytes) (get_or_append_left bounds (b ∷ []) no_bounds s.index is.within)
+      ∙ between_more bytes more (get_or bounds s.index no_bounds) (within s.index no_bounds is.within)
 
   slot_stays : (s : Slot) → IsSlotOf bytes bounds s → IsSlotOf all_bytes all_bounds s
   slot_stays s is = record {

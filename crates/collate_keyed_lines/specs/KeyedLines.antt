@@ -32,19 +32,19 @@ first_of_equals order (x ∷ later) = x ∷ filter (λ y. not (is_equal (order x
 abbrev pub is_same : {A : Type 0} → (A → A → Ordering) → A → A → Bool
 is_same order x kept = is_equal (order x kept)
 
--- whether a value may stand behind another, by how that compares with it: if it isn't below, or, where no two may be equal, if it
+-- whether a value may stand after another, by how that compares with it: if it isn't below, or, where no two may be equal, if it
 -- is above
 abbrev pub may_follow : Bool → Ordering → Bool
 may_follow true answer = is_less answer
 may_follow false answer = not (is_greater answer)
 
--- of the first so many values each may stand behind the one before it
+-- of the first so many values each may stand after the one before it
 abbrev pub AreInOrder : {A : Type 0} → Bool → (A → A → Ordering) → List A → ℕ → Type 0
 AreInOrder unique order xs = AllAdjacentBelow (λ x y. may_follow unique (order x y) ≡ true) xs
 
--- the value at a place is the first that may not stand behind the one before it
-pub record IsFirstUnordered {A : Type 0} (unique : Bool) (order : A → A → Ordering) (xs : List A) (place : ℕ) : Type 0 where
-  pub behind : 0 < place
-  pub within : place < length xs
-  pub before : AreInOrder unique order xs place
-  pub here : (before : ℕ) (d : A) → before + 1 ≡ place → may_follow unique (order (slice_index_or xs before d) (slice_index_or xs place d)) ≡ false
+-- the value at an index is the first that may not stand after the one before it
+pub record IsFirstUnordered {A : Type 0} (unique : Bool) (order : A → A → Ordering) (xs : List A) (index : ℕ) : Type 0 where
+  pub behind : 0 < index
+  pub within : index < length xs
+  pub before : AreInOrder unique order xs index
+  pub here : (before : ℕ) (d : A) → before + 1 ≡ index → may_follow unique (order (slice_index_or xs before d) (slice_index_or xs index d)) ≡ false

@@ -22,13 +22,13 @@ line_between bytes bounds =
       key = slice_range bytes bounds.key_start bounds.key_end;
     }
 
--- the line of a place
+-- the line of an index
 abbrev pub line_at : List ℕ → List Bounds → ℕ → KeyedLine
-line_at bytes bounds place = line_between bytes (slice_index_or bounds place no_bounds)
+line_at bytes bounds index = line_between bytes (slice_index_or bounds index no_bounds)
 
 -- the line of a slot
 abbrev pub line_of : List ℕ → List Bounds → Slot → KeyedLine
-line_of bytes bounds slot = line_at bytes bounds slot.place
+line_of bytes bounds slot = line_at bytes bounds slot.index
 
 -- how slots compare: by their fronts, and then by the keys
 abbrev pub slot_order : List ℕ → List Bounds → Slot → Slot → Ordering
@@ -40,9 +40,9 @@ pub record AreWithin (bytes : List ℕ) (bounds : Bounds) : Type 0 where
   pub text : bounds.key_start ≤ length bytes
   pub key : bounds.key_end ≤ length bytes
 
--- a slot has the place of a line and the front of its key
+-- a slot has the index of a line and the front of its key
 pub record IsSlotOf (bytes : List ℕ) (bounds : List Bounds) (slot : Slot) : Type 0 where
-  pub within : slot.place < length bounds
+  pub within : slot.index < length bounds
   pub front : IsFrontOf slot.front (line_of bytes bounds slot).key
 
 -- the lines as they stand

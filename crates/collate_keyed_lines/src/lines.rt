@@ -13,7 +13,7 @@ use crate::slots::{Bounds, Slot, front_of, key_of, line_in, slot_at};
 use std::alloc::{AllocError, Global};
 use std::marker::Model;
 
-/// How much memory a line takes beside its bytes and those of its key: its bounds, its slot, and the slot's place while
+/// How much memory a line takes beside its bytes and those of its key: its bounds, its slot, and the slot's index while
 /// slots are put in order.
 const BYTES_BESIDE: usize = 72;
 
@@ -77,7 +77,7 @@ impl KeyedLines {
         self.slots.len() == 0
     }
 
-    /// Adds a line with its key behind the last. What of it is compared is all of it, if nothing is given.
+    /// Adds a line with its key after the last. What of it is compared is all of it, if nothing is given.
     ///
     /// Errors: `AllocError` where memory is refused; the list is then as before.
     pub fn add(&mut self, line: &[u8], text: Option<&[u8]>, key: &[u8]) -> Result<(), AllocError>
@@ -88,9 +88,9 @@ impl KeyedLines {
         self.slots.reserve(1)?;
         let bounds = append(&mut self.bytes, line, text, key)?;
         let front = front_of(key);
-        let place = self.bounds.len();
+        let index = self.bounds.len();
         self.bounds.push_reserved(bounds);
-        self.slots.push_reserved(Slot { front, place });
+        self.slots.push_reserved(Slot { front, index });
         Ok(())
     }
 
@@ -128,7 +128,7 @@ impl KeyedLines {
         keep_first(bytes, bounds, &mut self.slots);
     }
 
-    /// The place of the first line that may not stand behind the one before it: that is below it or, where no two may be
+    /// The index of the first line that may not stand after the one before it: that is below it or, where no two may be
     /// equal, isn't above it. `None` where the lines are in order.
     pub fn first_unordered(&self, direction: Direction, unique: bool) -> Option<usize>
         ensures none { IfNone result (AreInOrder unique (turned direction key_order) self.now (length self.now)) }
@@ -139,19 +139,19 @@ impl KeyedLines {
         first_unordered(bytes, bounds, self.slots.as_slice(), direction, unique)
     }
 
-    /// The line at a place, counted from 0; `None` past the last.
-    pub fn get(&self, place: usize) -> Option<&[u8]>
-        ensures { option_copied result ≡ slice_get (map (λ (line : KeyedLine). line.line) self.now) place }
+    /// The line at an index, counted from 0; `None` past the last.
+    pub fn get(&self, index: usize) -> Option<&[u8]>
+        ensures { option_copied result ≡ slice_get (map (λ (line : KeyedLine). line.line) self.now) index }
     {
-        let slot = slot_at(self.slots.as_slice(), place)?;
+        let slot = slot_at(self.slots.as_slice(), index)?;
         Some(line_in(self.bytes.as_slice(), self.bounds.as_slice(), &slot))
     }
 
-    /// The key of the line at a place, counted from 0; `None` past the last.
-    pub fn key(&self, place: usize) -> Option<&[u8]>
-        ensures { option_copied result ≡ slice_get (map (λ (line : KeyedLine). line.key) self.now) place }
+    /// The key of the line at an index, counted from 0; `None` past the last.
+    pub fn key(&self, index: usize) -> Option<&[u8]>
+        ensures { option_copied result ≡ slice_get (map (λ (line : KeyedLine). line.key) self.now) index }
     {
-        let slot = slot_at(self.slots.as_slice(), place)?;
+        let slot = slot_at(self.slots.as_slice(), index)?;
         Some(key_of(self.bytes.as_slice(), self.bounds.as_slice(), &slot))
     }
 
@@ -171,7 +171,7 @@ impl KeyedLines {
     }
 }
 
-/// Puts a line, what of it is compared if that is given, and its key behind the bytes, and answers where they lie.
+/// Puts a line, what of it is compared if that is given, and its key after the bytes, and answers where they lie.
 ///
 /// Errors: `AllocError` where memory is refused; the bytes are then as before.
 fn append(

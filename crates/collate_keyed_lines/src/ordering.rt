@@ -47,7 +47,7 @@ fn says_equal(ordering: Ordering) -> bool
     }
 }
 
-/// The place of the first slot that may not stand behind the one before it.
+/// The index of the first slot that may not stand after the one before it.
 pub fn first_unordered(
     bytes: &[u8],
     bounds: &[Bounds],
@@ -58,10 +58,10 @@ pub fn first_unordered(
     ensures none { IfNone result (AreInOrder unique (turned direction (slot_order bytes.now bounds.now)) slots.now (length slots.now)) }
     ensures first { IfSome result (IsFirstUnordered unique (turned direction (slot_order bytes.now bounds.now)) slots.now) }
 {
-    for place in 1..slots.len() {
-        let ordering = compare_in(bytes, bounds, direction, &slots[place - 1], &slots[place]);
+    for index in 1..slots.len() {
+        let ordering = compare_in(bytes, bounds, direction, &slots[index - 1], &slots[index]);
         if !follows(unique, ordering) {
-            return Some(place);
+            return Some(index);
         }
     }
     None
@@ -83,7 +83,7 @@ fn compare_in(
     }
 }
 
-/// Whether one may stand behind another that compares so with it.
+/// Whether one may stand after another that compares so with it.
 fn follows(unique: bool, ordering: Ordering) -> bool
     ensures { result ≡ may_follow unique ordering }
 {

@@ -17,16 +17,16 @@ pub struct Bounds {
     pub key_end: usize,
 }
 
-/// What is put in order in the stead of a line: the place of its bounds, and the front of its key, by which most lines
+/// What is put in order in the stead of a line: the index of its bounds, and the front of its key, by which most lines
 /// compare.
 #[derive(Clone, Copy)]
 pub struct Slot {
     /// The first eight bytes of the key as a number, the first of them counting most; zeros stand for those that it misses.
     pub front: u64,
-    pub place: usize,
+    pub index: usize,
 }
 
-/// The bytes from a place to another, as many as there are.
+/// The bytes from an index to another, as many as there are.
 fn part(bytes: &[u8], start: usize, end: usize) -> &[u8]
     ensures { result.now ≡ slice_range bytes.now start end }
 {
@@ -35,12 +35,12 @@ fn part(bytes: &[u8], start: usize, end: usize) -> &[u8]
     &bytes[start..end]
 }
 
-/// The bounds of a place, and past the last those of no bytes.
-fn bounds_at(bounds: &[Bounds], place: usize) -> Bounds
-    ensures { result ≡ slice_index_or bounds.now place no_bounds }
+/// The bounds of an index, and past the last those of no bytes.
+fn bounds_at(bounds: &[Bounds], index: usize) -> Bounds
+    ensures { result ≡ slice_index_or bounds.now index no_bounds }
 {
-    if place < bounds.len() {
-        bounds[place]
+    if index < bounds.len() {
+        bounds[index]
     } else {
         Bounds {
             line_start: 0,
@@ -56,7 +56,7 @@ fn bounds_at(bounds: &[Bounds], place: usize) -> Bounds
 pub fn key_of<'b>(bytes: &'b [u8], bounds: &[Bounds], slot: &Slot) -> &'b [u8]
     ensures { result.now ≡ (line_of bytes.now bounds.now slot.now).key }
 {
-    let bounds = bounds_at(bounds, slot.place);
+    let bounds = bounds_at(bounds, slot.index);
     part(bytes, bounds.key_start, bounds.key_end)
 }
 
@@ -64,15 +64,15 @@ pub fn key_of<'b>(bytes: &'b [u8], bounds: &[Bounds], slot: &Slot) -> &'b [u8]
 pub fn line_in<'b>(bytes: &'b [u8], bounds: &[Bounds], slot: &Slot) -> &'b [u8]
     ensures { result.now ≡ (line_of bytes.now bounds.now slot.now).line }
 {
-    let bounds = bounds_at(bounds, slot.place);
+    let bounds = bounds_at(bounds, slot.index);
     part(bytes, bounds.line_start, bounds.line_end)
 }
 
-/// The slot at a place; `None` past the last.
-pub fn slot_at(slots: &[Slot], place: usize) -> Option<Slot>
-    ensures { result ≡ slice_get slots.now place }
+/// The slot at an index; `None` past the last.
+pub fn slot_at(slots: &[Slot], index: usize) -> Option<Slot>
+    ensures { result ≡ slice_get slots.now index }
 {
-    slots.get(place).copied()
+    slots.get(index).copied()
 }
 
 /// How two slots compare: by their fronts, and where these are the same by the keys.

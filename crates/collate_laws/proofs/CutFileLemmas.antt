@@ -1,4 +1,4 @@
--- A file that is cut behind the first byte past its most bytes is read as the whole file is.
+-- A file that is cut after the first byte past its most bytes is read as the whole file is.
 use Rattle.std.proofs.Common.{◌≡◌, ℕ, zero, suc, ◌+◌, ◌<◌, ◌≤◌, ◌↔◌, ◌==◌, Bool, true, false, cond, inl, inr, ⊎_elim, Option, Some, None, Result, Ok, Err, List, [], ◌∷◌, ◌++◌, length, take, drop, count_by, refl, sym, ap, subst, ◌∙◌, arith}
 use Rattle.std.specs.Prelude.{min, slice_get, slice_index_or}
 use Rattle.std.specs.List.{filter, list_any, onto_first, slice_split}
@@ -72,7 +72,7 @@ no_less n (r ∷ rs) j k there = by (λ i found. no_less (n + 1) rs i k found) (
     by behind true says (suc i) found =
         let later : n + 1 ≤ k = behind i (subst (λ (b : Bool). slice_get (cond b (n ∷ numbers_from (n + 1) rs) (numbers_from (n + 1) rs)) (suc i) ≡ Some k) says found) in omega arith
 
--- a record of the other lines has the same number, says the same, and stands behind the same records
+-- a record of the other lines has the same number, says the same, and stands after the same records
 pub record IsThere (n : ℕ) (rs others : List Record) (j k : ℕ) : Type 0 where
   pub number : slice_get (numbers_from n others) j ≡ Some k
   pub says : slice_get (filter says_something rs) j ≡ slice_get (filter says_something others) j
@@ -85,7 +85,7 @@ module _ (n : ℕ) (r s : Record) (rs others : List Record) (k : ℕ) where
   abbrev said_of : Bool → Record → List Record → List Record
   said_of says one more = cond says (one ∷ filter says_something more) (filter says_something more)
 
-  -- behind a line that says nothing
+  -- after a line that says nothing
   passed : {i : ℕ} → says_something s ≡ false → says_something r ≡ false → IsThere (n + 1) rs others i k → IsThere n (r ∷ rs) (s ∷ others) i k
   passed {i} second first further = record {
     number = ap (λ (b : Bool). slice_get (numbered b others) i) second ∙ further.number;
@@ -103,7 +103,7 @@ module _ (n : ℕ) (r s : Record) (rs others : List Record) (k : ℕ) where
     before = refl;
   }
 
-  -- and behind it
+  -- and after it
   kept : {i : ℕ} → says_something s ≡ true → says_something r ≡ true → IsThere (n + 1) rs others i k → r ≡ s → IsThere n (r ∷ rs) (s ∷ others) (suc i) k
   kept {i} second first further alike = record {
     number = ap (λ (b : Bool). slice_get (numbered b others) (suc i)) second ∙ further.number;

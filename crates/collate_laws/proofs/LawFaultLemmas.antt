@@ -18,7 +18,7 @@ use Rattle.icu_collator_core.specs.Acceptance.{IsAccepted, IsFirstFault}
 use Rattle.icu_collator_core.specs.WeightFaults.{IsJamoFault}
 use Rattle.icu_collator_core.specs.ContextFaults.{HasContexts}
 use Rattle.icu_collator_core.specs.WordWeights.{HasWeights}
-use Rattle.icu_collator_core.specs.TableFaults.{AllPass, AllPassIn, HasCell, HasPlaces, HasWord, IsFirstRefused, IsLeastRefused}
+use Rattle.icu_collator_core.specs.TableFaults.{AllPass, AllPassIn, HasCell, HasIndices, HasWord, IsFirstRefused, IsLeastRefused}
 
 -- words that are accepted have none
 pub word_fault_refutes : (lists : CanonicalLists) (words : WordLists) (fault : CanonicalFault)
@@ -50,16 +50,16 @@ pub table_fault_refutes : (canonical : Canonical) (tables : CollationTables) (fa
     → IsFirstFault canonical tables fault → IsAccepted canonical tables → ⊥
 table_fault_refutes canonical tables (Trie c) is a = refused_refutes tables HasCell c is a.characters.cells
 table_fault_refutes canonical tables (Word c) (n, is) a = refused_refutes tables HasWord c is a.characters.words
-table_fault_refutes canonical tables (Index c) (n, m, is) a = refused_refutes tables HasPlaces c is a.characters.places
+table_fault_refutes canonical tables (Index c) (n, m, is) a = refused_refutes tables HasIndices c is a.characters.indices
 table_fault_refutes canonical tables (Context c) (n, m, p, is) a = refused_refutes tables (HasContexts canonical tables) c is a.characters.contexts
 table_fault_refutes canonical tables (Weight c) (n, m, p, q, is) a = refused_refutes tables (HasWeights tables.special_primaries) c is a.characters.weights
 table_fault_refutes canonical tables PrefixOfWeight (h, none) a = none a.apart
 table_fault_refutes canonical tables Diacritics (h, p, none) a = true≢false (sym a.diacritics ∙ none)
-table_fault_refutes canonical tables (Jamo place) (h, p, d, is) a = jamo_refutes is
+table_fault_refutes canonical tables (Jamo index) (h, p, d, is) a = jamo_refutes is
   where
-    jamo_refutes : IsJamoFault tables place → ⊥
+    jamo_refutes : IsJamoFault tables index → ⊥
     jamo_refutes is =
-        ⊎_elim (λ least. true≢false (sym (a.jamo.sound place least.inside) ∙ least.offends))
+        ⊎_elim (λ least. true≢false (sym (a.jamo.sound index least.inside) ∙ least.offends))
         (λ count. count.0 a.jamo.count) is
 table_fault_refutes canonical tables Reordering (h, p, d, j, none) a = none a.reordering
 table_fault_refutes canonical tables SpecialPrimaries (h, p, d, j, r, none) a = none a.special_primaries

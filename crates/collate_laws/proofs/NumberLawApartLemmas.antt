@@ -80,7 +80,7 @@ module _ (records : List Record) (accepted : AreAccepted records) where
       let l = line c h in
       let none = none_together (λ ls. IsTrue (breaks_decomposed ls)) (λ e. false≢true e) records (accepted.keep_rules V7) in
       (or_parts (is_unlike_decomposed records []) (is_unlike_decomposed records (c ∷ []))
-      (false_from_ne_true _ (λ bad. none_at (is_undecomposed records) records l.place none l.inside (ap (is_undecomposed records) l.says ∙ bad)))).1
+      (false_from_ne_true _ (λ bad. none_at (is_undecomposed records) records l.index none l.inside (ap (is_undecomposed records) l.says ∙ bad)))).1
 
   own : (c : ℕ) → is_digit (weights_of records) c ≡ true → canonical.full c ≡ c ∷ []
   own c h =
@@ -97,7 +97,7 @@ module _ (records : List Record) (accepted : AreAccepted records) where
       let l = line c h in
       unspecial c
       (false_from_ne_true (is_special c)
-      (λ is. accepted.keep_rules V13 l.place l.inside (ap names_special l.says ∙ or_left (is_special c) false is)))
+      (λ is. accepted.keep_rules V13 l.index l.inside (ap names_special l.says ∙ or_left (is_special c) false is)))
 
   -- V10
   unprefixed : (prefix text : List ℕ) → holds_digit (weights_of records) prefix ≡ true → recorded_in records prefix text ≡ None
@@ -119,7 +119,7 @@ module _ (records : List Record) (accepted : AreAccepted records) where
           let l = recorded_line records prefix text es is in
           let joins : joins_digit records (weights l.layer prefix text es) ≡ true =
           and_from (ltb 1 (length text)) (holds_digit (weights_of records) text) (grind (arith, nat_tests)) h in
-          absurd (true≢false (sym (any_at (joins_digit records) records l.place l.inside (ap (joins_digit records) l.says ∙ joins)) ∙ none))
+          absurd (true≢false (sym (any_at (joins_digit records) records l.index l.inside (ap (joins_digit records) l.says ∙ joins)) ∙ none))
 
   pub digits_alone : JoinNoDigits records → AreDigitsAlone (collation_of records)
   digits_alone none =

@@ -85,7 +85,7 @@ pub fn normalising_first_is_as_good()
         → IsAcceptedWithin limits file → All IsScalar text → IsAsGood file options preferences (composed (file_canonical file) text) text }
 {}
 
-/// A file that is cut behind the first byte past its most bytes is read as the whole file is: both are refused for one fault,
+/// A file that is cut after the first byte past its most bytes is read as the whole file is: both are refused for one fault,
 /// or, where nothing was cut, both say the same records. So no more of a file need be read.
 pub fn files_cut_past_their_size_are_read_alike()
     ensures { (limits : Limits) (file : List ℕ) (result : Result FileRecords RecordsError)

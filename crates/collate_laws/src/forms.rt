@@ -71,7 +71,7 @@ pub fn forms_by_a_file_stay()
 {}
 
 /// A text that `split_normalized` split in two, or `split_normalized_utf8` or `split_normalized_utf16` did: its first part with
-/// the NFD or the NFC of the other behind it, in the text's place, changes no order, on either side, and no key.
+/// the NFD or the NFC of the other after it, in the text's place, changes no order, on either side, and no key.
 pub fn splitting_by_a_file_changes_nothing()
     ensures decomposed_text { (records : List Record) (options : CollatorOptions) (preferences : CollatorPreferences) (collator : CollatorParts) (tables : NormalizerTables) (text prefix rest : List ℕ)
         → AreAccepted records → IsCollatorOf records options preferences collator → IsCanonicalNormalizerOf records tables

@@ -33,8 +33,8 @@ pub mod line_order;
 pub mod numbers;
 pub mod unchanged;
 
-/// `Collator::try_new_unstable` over a provider of compiled tables is refused for want of memory alone; else the collator
-/// says what the file says, and the options that the caller leaves open are the file's.
+/// `Collator::try_new_unstable` over a provider of compiled tables is refused only if memory is; else the
+/// collator says what the file says, and the options that the caller leaves open are the file's.
 pub fn compiled_tables_make_collators()
     ensures { (records : List Record) (provided : Provided) (options : CollatorOptions) (preferences : CollatorPreferences) (result : Result CollatorParts CollatorError)
         → AreAccepted records → IsCompiledOf records provided
@@ -47,7 +47,7 @@ pub fn compiled_tables_make_collators()
         → MatchResult result (IsCollatorOf records options preferences) (λ error. error ≡ Memory) }
 {}
 
-/// `try_new_nfd_unstable` and `try_new_nfc_unstable` over such a provider are refused for want of memory alone.
+/// `try_new_nfd_unstable` and `try_new_nfc_unstable` over such a provider are refused only if memory is.
 pub fn compiled_tables_make_canonical_normalizers()
     ensures { (records : List Record) (provided : Provided) (result : Result NormalizerTables DataError)
         → AreAccepted records → IsCompiledOf records provided → IsMadeOfCanonical result (canonical_loads provided)

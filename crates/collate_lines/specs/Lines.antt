@@ -7,7 +7,7 @@ use Rattle.collate_lines.specs.Record.{Record, nothing}
 use Rattle.collate_lines.specs.Repeats.{says_something}
 use Rattle.collate_lines.specs.Grammar.{record_of}
 
--- The lines of a file: the parts between its LFs. What stands behind the last LF is a line too; where nothing stands there, it is
+-- The lines of a file: the parts between its LFs. What stands after the last LF is a line too; where nothing stands there, it is
 -- an empty one, and says nothing.
 abbrev pub lines_of : List ℕ → List (List ℕ)
 lines_of file = slice_split (λ b. b == 10) file

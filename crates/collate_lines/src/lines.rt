@@ -4,7 +4,7 @@ ghost use Rattle.std.specs.Prelude.{◌≡◌, ◌∷◌, ◌==◌, ℕ, MatchOp
 ghost use Rattle.std.specs.List.{position};
 ghost use Rattle.collate_lines.specs.Lines.{PassesSize, lines_left, lines_of};
 
-/// The first line of some bytes, without its LF, and what stands behind that LF; `None` where the line has none.
+/// The first line of some bytes, without its LF, and what stands after that LF; `None` where the line has none.
 pub fn split_line(bytes: &[u8]) -> (&[u8], Option<&[u8]>)
     ensures { lines_of bytes.now ≡ result.0.now ∷ lines_left result.1 }
 {

@@ -1,10 +1,10 @@
 pub mod NameChangeLemmas
 pub mod NamesLemmas
-pub mod NamePlaceLemmas
+pub mod NameRankLemmas
 pub mod NameSearchLemmas
 pub mod Renumbering
 pub mod Rows
-pub mod Places
-pub mod PlaceFrontLemmas
+pub mod PartIndices
+pub mod SlotFrontLemmas
 pub mod Ranks
 mod ChainLemmas

@@ -13,7 +13,7 @@ use Rattle.std.proofs.lemmas.List.Edits.{split_between}
 use Rattle.std.proofs.lemmas.List.Sorted.{searchable_from_sorted}
 use Rattle.std.proofs.Math.Bool.{and-false}
 use Rattle.collate_lists.specs.Names.{is_less, is_greater, is_equal, in_order}
-use Rattle.collate_lists.specs.Search.{stands_before, IsPlaceOf}
+use Rattle.collate_lists.specs.Search.{stands_before, IsRankOf}
 use Rattle.collate_lists.proofs.NamesLemmas.{in_order_is_sorted}
 
 -- ---- one comparison
@@ -73,8 +73,8 @@ module _ {A : Type 0} (compared : A → Ordering) (past : Bool) (xs : List A) (b
     few = λ digits h. (digits, omega arith, omega arith);
   }
 
-  -- the search has ended: its end is the place
-  pub narrowed_all : (low high count : ℕ) → IsNarrowed compared past xs before low high count → high ≤ low → IsPlaceOf compared past xs low
+  -- the search has ended: its end is the rank
+  pub narrowed_all : (low high count : ℕ) → IsNarrowed compared past xs before low high count → high ≤ low → IsRankOf compared past xs low
   narrowed_all low high count s h =
       let same : high ≡ low = omega (arith, s.ordered) in
       (s.front, subst (λ at. AllWithin (λ other. stands_before past (compared other) ≡ false) xs at (length xs)) same s.back)
@@ -117,7 +117,7 @@ module _ {A : Type 0} (compared : A → Ordering) (past : Bool) (xs : List A) (b
       few = λ digits h. fewer (middle - low) digits (omega arith) h;
     }
 
--- ---- two places
+-- ---- two ranks
 
 both_ways : (r : Ordering) → stands_before false r ≡ true → stands_before true r ≡ false → ⊥
 both_ways Less h k = cc
@@ -125,7 +125,7 @@ both_ways Equal h k = cc
 both_ways Greater h k = cc
 
 -- the first element that isn't below doesn't stand after the first that is above
-pub ends_ordered : {A : Type 0} (compared : A → Ordering) (xs : List A) (start end : ℕ) → start ≤ length xs → IsPlaceOf compared false xs start → IsPlaceOf compared true xs end → start ≤ end
+pub ends_ordered : {A : Type 0} (compared : A → Ordering) (xs : List A) (start end : ℕ) → start ≤ length xs → IsRankOf compared false xs start → IsRankOf compared true xs end → start ≤ end
 ends_ordered compared [] start end l s e = omega arith
 ends_ordered compared (x ∷ xs) start end l s e =
     ⊎_elim (λ (h : end < start). absurd (both_ways (compared (get_or (x ∷ xs) end x)) (s.0 end x (omega arith) h) (e.1 end x (omega arith) (omega arith)))) (λ (h : start ≤ end). h) (cases_lt end start)
@@ -144,7 +144,7 @@ filter_none p (x ∷ xs) h =
     ap (λ b. cond b (x ∷ filter p xs) (filter p xs)) (All-head (λ y. p y ≡ false) x xs h)
     ∙ filter_none p xs (All-tail (λ y. p y ≡ false) x xs h)
 
--- the part between two places is what passes a test, if nothing before and nothing behind passes, and all between do
+-- the part between two ranks is what passes a test, if nothing before and nothing after passes, and all between do
 module _ {A : Type 0} (p : A → Bool) (xs : List A) (start end : ℕ) (l : start ≤ end) (k : end ≤ length xs) where
   module _ (before : AllWithin (λ x. p x ≡ false) xs 0 start) (within : AllWithin (λ x. p x ≡ true) xs start end) (behind : AllWithin (λ x. p x ≡ false) xs end (length xs)) where
     front_fails : All (λ x. p x ≡ false) (take start xs)
@@ -194,7 +194,7 @@ between_equal Equal h k = refl
 between_equal Greater h k = cc
 
 -- the elements from the first that isn't below to the first that is above are the equal ones
-pub equal_part : {A : Type 0} (compared : A → Ordering) (xs : List A) (start end : ℕ) → start ≤ end → end ≤ length xs → IsPlaceOf compared false xs start → IsPlaceOf compared true xs end → slice_range xs start end ≡ filter (λ other. is_equal (compared other)) xs
+pub equal_part : {A : Type 0} (compared : A → Ordering) (xs : List A) (start end : ℕ) → start ≤ end → end ≤ length xs → IsRankOf compared false xs start → IsRankOf compared true xs end → slice_range xs start end ≡ filter (λ other. is_equal (compared other)) xs
 equal_part compared xs start end l k s e =
     passing_part (λ other. is_equal (compared other)) xs start end l k
     (λ i d low high. below_unequal (compared (get_or xs i d)) (s.0 i d low high))
@@ -239,7 +239,7 @@ unfolding is_between
 between_both r s h k = ap (λ b. not b && not (is_greater s)) h ∙ ap not k
 
 -- first says how an element compares with the first of two, last with the last
-module _ {A : Type 0} (first last : A → Ordering) (xs : List A) (start end : ℕ) (s : IsPlaceOf first false xs start) (e : IsPlaceOf last true xs end) where
+module _ {A : Type 0} (first last : A → Ordering) (xs : List A) (start end : ℕ) (s : IsRankOf first false xs start) (e : IsRankOf last true xs end) where
   -- the elements from the first that isn't below the first of two to the first that is above the last are those between them, as names_between has them
   pub between_part : start ≤ end → end ≤ length xs → slice_range xs start end ≡ filter (λ other. not (is_less (first other)) && not (is_greater (last other))) xs
   unfolding is_between
@@ -252,7 +252,7 @@ module _ {A : Type 0} (first last : A → Ordering) (xs : List A) (start end : �
       (upto_last (last (get_or xs i d)) (e.0 i d (omega arith) high)))
       (λ i d low high. between_not_high (first (get_or xs i d)) (last (get_or xs i d)) (above_last (last (get_or xs i d)) (e.1 i d low high)))
 
-  -- no element is between them where the place past the last isn't behind the place of the first
+  -- no element is between them where the rank past the last isn't after the rank of the first
   pub between_none : end ≤ start → filter (λ other. not (is_less (first other)) && not (is_greater (last other))) xs ≡ []
   unfolding is_between
   between_none l =

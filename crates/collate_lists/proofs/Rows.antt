@@ -9,7 +9,7 @@ use Rattle.std.proofs.lemmas.List.Edits.{length-insert, length-remove, get_or-re
 use Rattle.std.proofs.Math.ListN.{get_or-append}
 use Rattle.std.specs.Prelude.{insert, remove, slice_get, slice_index, vec_len, vec_capacity}
 use Rattle.collate_lists.specs.declared.list_rows.TheConstants.{FULL}
-use Rattle.collate_lists.specs.declared.windows.Placed.{Placed}
+use Rattle.collate_lists.specs.declared.windows.FrontedSlot.{FrontedSlot}
 use Rattle.std.specs.Global.{Vec}
 use Rattle.collate_lists.specs.Lists.{joined, lengths, rank_of, starts_from, starts_of, raised, lowered, AreRoomy}
 
@@ -23,18 +23,18 @@ All-insert P xs n x all h = All-append P (take n xs) (x ∷ drop n xs) (All-take
 pub All-remove : {X : Type 0} (P : X → Type 0) (xs : List X) (n : ℕ) → All P xs → All P (remove xs n)
 All-remove P xs n all = All-append P (take n xs) (drop (suc n) xs) (All-take P n xs all) (All-drop P (suc n) xs all)
 
--- ---- an edit of a list, seen in the lists before and behind it
+-- ---- an edit of a list, seen in the lists before and after it
 
 -- the lists around one of them
-pub split_at : (lists : List (Vec Placed)) (i : ℕ) (list : Vec Placed) → i < length lists → list ≡ get_or lists i list → lists ≡ take i lists ++ list ∷ drop (i + 1) lists
+pub split_at : (lists : List (Vec FrontedSlot)) (i : ℕ) (list : Vec FrontedSlot) → i < length lists → list ≡ get_or lists i list → lists ≡ take i lists ++ list ∷ drop (i + 1) lists
 split_at lists i list within is =
-    sym (take-append-drop i lists) ∙ ap (λ rest. take i lists ++ rest) (drop_more lists i list within) ∙ ap (λ (l : Vec Placed). take i lists ++ l ∷ drop (i + 1) lists) (sym is)
+    sym (take-append-drop i lists) ∙ ap (λ rest. take i lists ++ rest) (drop_more lists i list within) ∙ ap (λ (l : Vec FrontedSlot). take i lists ++ l ∷ drop (i + 1) lists) (sym is)
 
-pub set_at_split : (lists : List (Vec Placed)) (i : ℕ) (list : Vec Placed) → i < length lists → set lists i list ≡ take i lists ++ list ∷ drop (i + 1) lists
+pub set_at_split : (lists : List (Vec FrontedSlot)) (i : ℕ) (list : Vec FrontedSlot) → i < length lists → set lists i list ≡ take i lists ++ list ∷ drop (i + 1) lists
 set_at_split lists i list within = set_split lists i list within ∙ ap (λ n. take i lists ++ list ∷ drop n lists) (sym (add-one i))
 
-pub joined-append : (front back : List (Vec Placed)) → joined (front ++ back) ≡ joined front ++ joined back
-joined-append front back = flat_map-append (λ (list : Vec Placed). list.items) front back
+pub joined-append : (front back : List (Vec FrontedSlot)) → joined (front ++ back) ≡ joined front ++ joined back
+joined-append front back = flat_map-append (λ (list : Vec FrontedSlot). list.items) front back
 
 pub insert_behind : {X : Type 0} (xs ys : List X) (k : ℕ) (x : X) → insert (xs ++ ys) (length xs + k) x ≡ xs ++ insert ys k x
 insert_behind xs ys k x = rw (take-append-add xs ys k, drop-append-add xs ys k) (append_assoc xs (take k ys) (x ∷ drop k ys))
@@ -55,11 +55,11 @@ remove_within xs ys k h =
 
 -- ---- where lists begin
 
-pub length-starts_from : (rank : ℕ) (lists : List (Vec Placed)) → length (starts_from rank lists) ≡ length lists
+pub length-starts_from : (rank : ℕ) (lists : List (Vec FrontedSlot)) → length (starts_from rank lists) ≡ length lists
 length-starts_from rank [] = refl
 length-starts_from rank (list ∷ lists) = omega (arith, length-starts_from (rank + length list.items) lists)
 
-pub starts_from-append : (rank : ℕ) (front back : List (Vec Placed)) → starts_from rank (front ++ back) ≡ starts_from rank front ++ starts_from (rank + length (joined front)) back
+pub starts_from-append : (rank : ℕ) (front back : List (Vec FrontedSlot)) → starts_from rank (front ++ back) ≡ starts_from rank front ++ starts_from (rank + length (joined front)) back
 starts_from-append rank [] back =
     let same : rank ≡ rank + 0 = omega arith in
     ap (λ n. starts_from n back) same
@@ -67,13 +67,13 @@ starts_from-append rank (list ∷ front) back =
     let next : rank + length list.items + length (joined front) ≡ rank + length (list.items ++ joined front) = omega (arith, length-append list.items (joined front)) in
     ap (λ starts. rank ∷ starts) (starts_from-append (rank + length list.items) front back ∙ ap (λ n. starts_from (rank + length list.items) front ++ starts_from n back) next)
 
-pub starts_from-suc : (rank : ℕ) (lists : List (Vec Placed)) → starts_from (rank + 1) lists ≡ map (λ start. start + 1) (starts_from rank lists)
+pub starts_from-suc : (rank : ℕ) (lists : List (Vec FrontedSlot)) → starts_from (rank + 1) lists ≡ map (λ start. start + 1) (starts_from rank lists)
 starts_from-suc rank [] = refl
 starts_from-suc rank (list ∷ lists) =
     let next : rank + 1 + length list.items ≡ rank + length list.items + 1 = omega arith in
     ap (λ starts. (rank + 1) ∷ starts) (ap (λ n. starts_from n lists) next ∙ starts_from-suc (rank + length list.items) lists)
 
-pub starts_from-pred : (rank : ℕ) (lists : List (Vec Placed)) → starts_from rank lists ≡ map (λ start. start - 1) (starts_from (rank + 1) lists)
+pub starts_from-pred : (rank : ℕ) (lists : List (Vec FrontedSlot)) → starts_from rank lists ≡ map (λ start. start - 1) (starts_from (rank + 1) lists)
 starts_from-pred rank [] = refl
 starts_from-pred rank (list ∷ lists) =
     let here : rank ≡ rank + 1 - 1 = omega arith in
@@ -81,14 +81,14 @@ starts_from-pred rank (list ∷ lists) =
     ap (λ n. n ∷ starts_from (rank + length list.items) lists) here
     ∙ ap (λ starts. (rank + 1 - 1) ∷ starts) (starts_from-pred (rank + length list.items) lists ∙ ap (λ n. map (λ start. start - 1) (starts_from n lists)) next)
 
--- no list begins before the first, or behind all values
-pub starts_from_low : (rank : ℕ) (lists : List (Vec Placed)) → All (λ start. rank ≤ start) (starts_from rank lists)
+-- no list begins before the first, or after all values
+pub starts_from_low : (rank : ℕ) (lists : List (Vec FrontedSlot)) → All (λ start. rank ≤ start) (starts_from rank lists)
 starts_from_low rank [] = All-nil (λ start. rank ≤ start)
 starts_from_low rank (list ∷ lists) =
     All-cons (λ start. rank ≤ start) rank (starts_from (rank + length list.items) lists) (omega arith)
     (All-weaker (λ start. rank + length list.items ≤ start) (λ start. rank ≤ start) (λ start h. omega arith) (starts_from (rank + length list.items) lists) (starts_from_low (rank + length list.items) lists))
 
-pub starts_from_high : (rank : ℕ) (lists : List (Vec Placed)) → All (λ start. start ≤ rank + length (joined lists)) (starts_from rank lists)
+pub starts_from_high : (rank : ℕ) (lists : List (Vec FrontedSlot)) → All (λ start. start ≤ rank + length (joined lists)) (starts_from rank lists)
 starts_from_high rank [] = All-nil (λ start. start ≤ rank + 0)
 starts_from_high rank (list ∷ lists) =
     let all : length (list.items ++ joined lists) ≡ length list.items + length (joined lists) = length-append list.items (joined lists) in
@@ -108,8 +108,8 @@ remove_at front back x n e =
 -- ---- what each edit leaves
 
 -- lists in a row, one of them with its front and its back
-module _ (front back : List (Vec Placed)) where
-  starts_around : (list : Vec Placed) → starts_of (front ++ list ∷ back) ≡ starts_of front ++ length (joined front) ∷ starts_from (length (joined front) + length list.items) back
+module _ (front back : List (Vec FrontedSlot)) where
+  starts_around : (list : Vec FrontedSlot) → starts_of (front ++ list ∷ back) ≡ starts_of front ++ length (joined front) ∷ starts_from (length (joined front) + length list.items) back
   starts_around list =
       let none : 0 + length (joined front) ≡ length (joined front) = omega arith in
       starts_from-append 0 front (list ∷ back) ∙ ap (λ n. starts_of front ++ n ∷ starts_from (n + length list.items) back) none
@@ -120,7 +120,7 @@ module _ (front back : List (Vec Placed)) where
       let at : n + 1 ≡ length (starts_of front) + 1 = omega (arith, length-starts_from 0 front) in
       rw (at, take-append-add (starts_of front) (x ∷ later) 1, drop-append-add (starts_of front) (x ∷ later) 1) (append_assoc (starts_of front) (x ∷ []) (map f later))
 
-  pub put_values : (list new : Vec Placed) (place : ℕ) (value : Placed) → place ≤ length list.items → new.items ≡ insert list.items place value
+  pub put_values : (list new : Vec FrontedSlot) (place : ℕ) (value : FrontedSlot) → place ≤ length list.items → new.items ≡ insert list.items place value
       → joined (front ++ new ∷ back) ≡ insert (joined (front ++ list ∷ back)) (length (joined front) + place) value
   put_values list new place value h e =
       joined-append front (new ∷ back)
@@ -129,7 +129,7 @@ module _ (front back : List (Vec Placed)) where
       ∙ sym (insert_behind (joined front) (list.items ++ joined back) place value)
       ∙ ap (λ items. insert items (length (joined front) + place) value) (sym (joined-append front (list ∷ back)))
 
-  pub put_starts : (list new : Vec Placed) (part : ℕ) → part ≡ length front → length new.items ≡ length list.items + 1
+  pub put_starts : (list new : Vec FrontedSlot) (part : ℕ) → part ≡ length front → length new.items ≡ length list.items + 1
       → starts_of (front ++ new ∷ back) ≡ raised (part + 1) (starts_of (front ++ list ∷ back))
   put_starts list new part at h =
       let next : length (joined front) + length new.items ≡ length (joined front) + length list.items + 1 = omega arith in
@@ -139,7 +139,7 @@ module _ (front back : List (Vec Placed)) where
       ∙ sym (moved_behind (λ start. start + 1) (length (joined front)) (starts_from (length (joined front) + length list.items) back) part at)
       ∙ ap (λ starts. raised (part + 1) starts) (sym (starts_around list))
 
-  pub taken_values : (list new : Vec Placed) (place : ℕ) → place < length list.items → new.items ≡ remove list.items place
+  pub taken_values : (list new : Vec FrontedSlot) (place : ℕ) → place < length list.items → new.items ≡ remove list.items place
       → joined (front ++ new ∷ back) ≡ remove (joined (front ++ list ∷ back)) (length (joined front) + place)
   taken_values list new place h e =
       joined-append front (new ∷ back)
@@ -148,7 +148,7 @@ module _ (front back : List (Vec Placed)) where
       ∙ sym (remove_behind (joined front) (list.items ++ joined back) place)
       ∙ ap (λ items. remove items (length (joined front) + place)) (sym (joined-append front (list ∷ back)))
 
-  pub taken_starts : (list new : Vec Placed) (part : ℕ) → part ≡ length front → length new.items + 1 ≡ length list.items
+  pub taken_starts : (list new : Vec FrontedSlot) (part : ℕ) → part ≡ length front → length new.items + 1 ≡ length list.items
       → starts_of (front ++ new ∷ back) ≡ lowered (part + 1) (starts_of (front ++ list ∷ back))
   taken_starts list new part at h =
       let next : length (joined front) + length new.items + 1 ≡ length (joined front) + length list.items = omega arith in
@@ -158,7 +158,7 @@ module _ (front back : List (Vec Placed)) where
       ∙ sym (moved_behind (λ start. start - 1) (length (joined front)) (starts_from (length (joined front) + length list.items) back) part at)
       ∙ ap (λ starts. lowered (part + 1) starts) (sym (starts_around list))
 
-  pub value_at : (list : Vec Placed) (place : ℕ) (value : Placed) → place < length list.items → value ≡ get_or list.items place value
+  pub value_at : (list : Vec FrontedSlot) (place : ℕ) (value : FrontedSlot) → place < length list.items → value ≡ get_or list.items place value
       → slice_get (joined (front ++ list ∷ back)) (length (joined front) + place) ≡ Some value
   value_at list place value h e =
       let values : joined (front ++ list ∷ back) ≡ joined front ++ (list.items ++ joined back) = joined-append front (list ∷ back) in
@@ -169,13 +169,13 @@ module _ (front back : List (Vec Placed)) where
       ∙ ap Some (get_or-append-add (joined front) (list.items ++ joined back) place value ∙ get_or-append list.items (joined back) value place h ∙ sym e)
       )
 
-  pub halved_values : (list low high : Vec Placed) → list.items ≡ low.items ++ high.items → joined (front ++ low ∷ high ∷ back) ≡ joined (front ++ list ∷ back)
+  pub halved_values : (list low high : Vec FrontedSlot) → list.items ≡ low.items ++ high.items → joined (front ++ low ∷ high ∷ back) ≡ joined (front ++ list ∷ back)
   halved_values list low high e =
       joined-append front (low ∷ high ∷ back)
       ∙ ap (λ items. joined front ++ items) (sym (append_assoc low.items high.items (joined back)) ∙ ap (λ items. items ++ joined back) (sym e))
       ∙ sym (joined-append front (list ∷ back))
 
-  pub halved_starts : (list low high : Vec Placed) (part half start : ℕ) → part ≡ length front → list.items ≡ low.items ++ high.items → length low.items ≡ half
+  pub halved_starts : (list low high : Vec FrontedSlot) (part half start : ℕ) → part ≡ length front → list.items ≡ low.items ++ high.items → length low.items ≡ half
       → start ≡ length (joined front) + half → starts_of (front ++ low ∷ high ∷ back) ≡ insert (starts_of (front ++ list ∷ back)) (part + 1) start
   halved_starts list low high part half start at e h from =
       let b : ℕ = length (joined front) in
@@ -190,11 +190,11 @@ module _ (front back : List (Vec Placed)) where
       ∙ sym (insert_next (starts_of front) (starts_from (b + length list.items) back) b start (part + 1) place)
       ∙ ap (λ starts. insert starts (part + 1) start) (sym (starts_around list))
 
-  pub let_go_values : (list : Vec Placed) → list.items ≡ [] → joined (front ++ back) ≡ joined (front ++ list ∷ back)
+  pub let_go_values : (list : Vec FrontedSlot) → list.items ≡ [] → joined (front ++ back) ≡ joined (front ++ list ∷ back)
   let_go_values list e =
       joined-append front back ∙ ap (λ items. joined front ++ (items ++ joined back)) (sym e) ∙ sym (joined-append front (list ∷ back))
 
-  pub let_go_starts : (list : Vec Placed) (part : ℕ) → part ≡ length front → list.items ≡ [] → starts_of (front ++ back) ≡ remove (starts_of (front ++ list ∷ back)) part
+  pub let_go_starts : (list : Vec FrontedSlot) (part : ℕ) → part ≡ length front → list.items ≡ [] → starts_of (front ++ back) ≡ remove (starts_of (front ++ list ∷ back)) part
   let_go_starts list part at e =
       let none : 0 + length (joined front) ≡ length (joined front) + length list.items = omega (arith, ap length e) in
       let place : part ≡ length (starts_of front) = omega (arith, length-starts_from 0 front) in
@@ -205,17 +205,17 @@ module _ (front back : List (Vec Placed)) where
 
 -- ---- the same at a place in the lists
 
-pub length_at : (lists : List (Vec Placed)) (part : ℕ) (list : Vec Placed) → part < length lists → list ≡ get_or lists part list → slice_index (lengths lists) part ≡ length list.items
-length_at lists part list within is = get_or-map (λ (l : Vec Placed). length l.items) lists part list 0 within ∙ ap (λ (l : Vec Placed). length l.items) (sym is)
+pub length_at : (lists : List (Vec FrontedSlot)) (part : ℕ) (list : Vec FrontedSlot) → part < length lists → list ≡ get_or lists part list → slice_index (lengths lists) part ≡ length list.items
+length_at lists part list within is = get_or-map (λ (l : Vec FrontedSlot). length l.items) lists part list 0 within ∙ ap (λ (l : Vec FrontedSlot). length l.items) (sym is)
 
-pub room_at : (lists : List (Vec Placed)) (part : ℕ) (list : Vec Placed) → part < length lists → list ≡ get_or lists part list → AreRoomy lists → (length list.items ≤ FULL) × (FULL ≤ vec_capacity list)
-room_at lists part list within is room = subst (λ (l : Vec Placed). (length l.items ≤ FULL) × (FULL ≤ vec_capacity l)) (sym is) (room part list within)
+pub room_at : (lists : List (Vec FrontedSlot)) (part : ℕ) (list : Vec FrontedSlot) → part < length lists → list ≡ get_or lists part list → AreRoomy lists → (length list.items ≤ FULL) × (FULL ≤ vec_capacity list)
+room_at lists part list within is room = subst (λ (l : Vec FrontedSlot). (length l.items ≤ FULL) × (FULL ≤ vec_capacity l)) (sym is) (room part list within)
 
-length_front : (lists : List (Vec Placed)) (part : ℕ) → part < length lists → part ≡ length (take part lists)
+length_front : (lists : List (Vec FrontedSlot)) (part : ℕ) → part < length lists → part ≡ length (take part lists)
 length_front lists part within = omega (arith, length-take part lists)
 
 -- a value is put at a place, where there is room, so that it is done
-pub put_in : (lists : List (Vec Placed)) (part : ℕ) (list new : Vec Placed) (place : ℕ) (value : Placed) (done : Bool) → part < length lists → list ≡ get_or lists part list
+pub put_in : (lists : List (Vec FrontedSlot)) (part : ℕ) (list new : Vec FrontedSlot) (place : ℕ) (value : FrontedSlot) (done : Bool) → part < length lists → list ≡ get_or lists part list
     → place ≤ slice_index (lengths lists) part → slice_index (lengths lists) part < FULL → AreRoomy lists → (vec_len list < vec_capacity list → done ≡ true)
     → new.items ≡ cond done (insert list.items place value) list.items
     → (joined (set lists part new) ≡ insert (joined lists) (rank_of lists part place) value) × (starts_of (set lists part new) ≡ raised (part + 1) (starts_of lists))
@@ -233,7 +233,7 @@ put_in lists part list new place value done within is at space room succeeds ite
       ap starts_of rows_new ∙ put_starts front back list new part (length_front lists part within) more ∙ ap (λ all. raised (part + 1) (starts_of all)) (sym rows),
     )
 
-pub taken_from : (lists : List (Vec Placed)) (part : ℕ) (list new : Vec Placed) (place : ℕ) → part < length lists → list ≡ get_or lists part list → place < length list.items → new.items ≡ remove list.items place
+pub taken_from : (lists : List (Vec FrontedSlot)) (part : ℕ) (list new : Vec FrontedSlot) (place : ℕ) → part < length lists → list ≡ get_or lists part list → place < length list.items → new.items ≡ remove list.items place
     → (joined (set lists part new) ≡ remove (joined lists) (rank_of lists part place)) × (starts_of (set lists part new) ≡ lowered (part + 1) (starts_of lists))
 taken_from lists part list new place within is h e =
     let front = take part lists in
@@ -245,14 +245,14 @@ taken_from lists part list new place within is h e =
       ap starts_of rows_new ∙ taken_starts front back list new part (length_front lists part within) fewer ∙ ap (λ all. lowered (part + 1) (starts_of all)) (sym rows),
     )
 
-pub value_in : (lists : List (Vec Placed)) (part : ℕ) (list : Vec Placed) (place : ℕ) (value : Placed) → part < length lists → list ≡ get_or lists part list → place < length list.items → value ≡ get_or list.items place value
+pub value_in : (lists : List (Vec FrontedSlot)) (part : ℕ) (list : Vec FrontedSlot) (place : ℕ) (value : FrontedSlot) → part < length lists → list ≡ get_or lists part list → place < length list.items → value ≡ get_or list.items place value
     → slice_get (joined lists) (rank_of lists part place) ≡ Some value
 value_in lists part list place value within is h e =
     let front = take part lists in
     let back = drop (part + 1) lists in
     ap (λ all. slice_get (joined all) (length (joined front) + place)) (split_at lists part list within is) ∙ value_at front back list place value h e
 
-pub let_go_in : (lists : List (Vec Placed)) (part : ℕ) (list : Vec Placed) → part < length lists → list ≡ get_or lists part list → slice_index (lengths lists) part ≡ 0
+pub let_go_in : (lists : List (Vec FrontedSlot)) (part : ℕ) (list : Vec FrontedSlot) → part < length lists → list ≡ get_or lists part list → slice_index (lengths lists) part ≡ 0
     → (joined (remove lists part) ≡ joined lists) × (starts_of (remove lists part) ≡ remove (starts_of lists) part)
 let_go_in lists part list within is h =
     let front = take part lists in
@@ -265,20 +265,20 @@ let_go_in lists part list within is h =
     )
 
 -- the rank at which a list begins, and the next one
-pub start_at : (rank : ℕ) (lists : List (Vec Placed)) (part : ℕ) → part < length lists → slice_index (starts_from rank lists) part ≡ rank + length (joined (take part lists))
+pub start_at : (rank : ℕ) (lists : List (Vec FrontedSlot)) (part : ℕ) → part < length lists → slice_index (starts_from rank lists) part ≡ rank + length (joined (take part lists))
 start_at rank [] part h = absurd (omega arith)
 start_at rank (list ∷ lists) zero h = omega arith
 start_at rank (list ∷ lists) (suc part) h =
     omega (arith, start_at (rank + length list.items) lists part (omega arith), length-append list.items (joined (take part lists)))
 
-pub start_next : (lists : List (Vec Placed)) (part : ℕ) → part < length lists → length (joined (take (part + 1) lists)) ≡ length (joined (take part lists)) + slice_index (lengths lists) part
+pub start_next : (lists : List (Vec FrontedSlot)) (part : ℕ) → part < length lists → length (joined (take (part + 1) lists)) ≡ length (joined (take part lists)) + slice_index (lengths lists) part
 start_next [] part h = absurd (omega arith)
 start_next (list ∷ lists) zero h = omega (arith, length-append list.items [])
 start_next (list ∷ lists) (suc part) h =
     rw (suc-add part 1) (omega (arith, start_next lists part (omega arith), length-append list.items (joined (take part lists)), length-append list.items (joined (take (part + 1) lists))))
 
 -- the ranks at which later lists begin
-pub drop-starts_from : (rank n : ℕ) (lists : List (Vec Placed)) → drop n (starts_from rank lists) ≡ starts_from (rank + length (joined (take n lists))) (drop n lists)
+pub drop-starts_from : (rank n : ℕ) (lists : List (Vec FrontedSlot)) → drop n (starts_from rank lists) ≡ starts_from (rank + length (joined (take n lists))) (drop n lists)
 drop-starts_from rank zero lists =
     let none : rank ≡ rank + 0 = omega arith in
     ap (λ m. starts_from m lists) none
@@ -287,22 +287,22 @@ drop-starts_from rank (suc n) (list ∷ lists) =
     let next : rank + length list.items + length (joined (take n lists)) ≡ rank + length (list.items ++ joined (take n lists)) = omega (arith, length-append list.items (joined (take n lists))) in
     drop-starts_from (rank + length list.items) n lists ∙ ap (λ m. starts_from m (drop n lists)) next
 
--- no list ends behind all values
-pub list_ends : (rank : ℕ) (lists : List (Vec Placed)) (part : ℕ) → part < length lists → slice_index (starts_from rank lists) part + slice_index (lengths lists) part ≤ rank + length (joined lists)
+-- no list ends after all values
+pub list_ends : (rank : ℕ) (lists : List (Vec FrontedSlot)) (part : ℕ) → part < length lists → slice_index (starts_from rank lists) part + slice_index (lengths lists) part ≤ rank + length (joined lists)
 list_ends rank [] part h = absurd (omega arith)
 list_ends rank (list ∷ lists) zero h = omega (arith, length-append list.items (joined lists))
 list_ends rank (list ∷ lists) (suc part) h = omega (arith, list_ends (rank + length list.items) lists part (omega arith), length-append list.items (joined lists))
 
 -- ---- a full list becomes two
 
-pub lengths-insert : (lists : List (Vec Placed)) (n : ℕ) (list : Vec Placed) → lengths (insert lists n list) ≡ insert (lengths lists) n (length list.items)
+pub lengths-insert : (lists : List (Vec FrontedSlot)) (n : ℕ) (list : Vec FrontedSlot) → lengths (insert lists n list) ≡ insert (lengths lists) n (length list.items)
 lengths-insert lists n list =
-    let f : Vec Placed → ℕ = λ l. length l.items in
+    let f : Vec FrontedSlot → ℕ = λ l. length l.items in
     map-append f (take n lists) (list ∷ drop n lists)
     ∙ ap (λ xs. xs ++ f list ∷ map f (drop n lists)) (sym (take-map f n lists))
     ∙ ap (λ xs. take n (map f lists) ++ f list ∷ xs) (sym (drop-map f n lists))
 
-pub halved : (lists : List (Vec Placed)) (part : ℕ) (list low high : Vec Placed) (new : List (Vec Placed)) (half : ℕ) (done : Bool) → part < length lists → list ≡ get_or lists part list
+pub halved : (lists : List (Vec FrontedSlot)) (part : ℕ) (list low high : Vec FrontedSlot) (new : List (Vec FrontedSlot)) (half : ℕ) (done : Bool) → part < length lists → list ≡ get_or lists part list
     → low.items ≡ take half list.items → high.items ≡ drop half list.items → length list.items ≡ half + half → done ≡ true → new ≡ cond done (insert (set lists part low) (part + 1) high) (set lists part low)
     → (joined new ≡ joined lists) × (starts_of new ≡ insert (starts_of lists) (part + 1) (slice_index (starts_of lists) part + half))
     × (lengths new ≡ insert (set (lengths lists) part half) (part + 1) half)
@@ -324,22 +324,22 @@ halved lists part list low high new half done within is lower upper long succeed
           ∙ ap (λ all. insert (starts_of all) (part + 1) (slice_index (starts_of lists) part + half)) (sym rows),
       ap lengths made ∙ lengths-insert (set lists part low) (part + 1) high
           ∙ ap (λ n. insert (lengths (set lists part low)) (part + 1) n) k
-          ∙ ap (λ xs. insert xs (part + 1) half) (map-set (λ (l : Vec Placed). length l.items) lists part low ∙ ap (λ n. set (lengths lists) part n) h),
+          ∙ ap (λ xs. insert xs (part + 1) half) (map-set (λ (l : Vec FrontedSlot). length l.items) lists part low ∙ ap (λ n. set (lengths lists) part n) h),
     )
 
--- a list is cut at a half, and the second one put behind it
-pub AreRoomy-halved : (lists : List (Vec Placed)) (part : ℕ) (low high : Vec Placed) (new : List (Vec Placed)) (done : Bool) → done ≡ true
+-- a list is cut at a half, and the second one put after it
+pub AreRoomy-halved : (lists : List (Vec FrontedSlot)) (part : ℕ) (low high : Vec FrontedSlot) (new : List (Vec FrontedSlot)) (done : Bool) → done ≡ true
     → new ≡ cond done (insert (set lists part low) (part + 1) high) (set lists part low) → AreRoomy lists
     → (length low.items ≤ FULL) × (FULL ≤ vec_capacity low) → (length high.items ≤ FULL) × (FULL ≤ vec_capacity high) → AreRoomy new
 AreRoomy-halved lists part low high new done succeeds items all lower upper =
     let made : new ≡ insert (set lists part low) (part + 1) high = done_is done (insert (set lists part low) (part + 1) high) (set lists part low) new succeeds items in
-    let P : Vec Placed → Type 0 = λ l. (length l.items ≤ FULL) × (FULL ≤ vec_capacity l) in
+    let P : Vec FrontedSlot → Type 0 = λ l. (length l.items ≤ FULL) × (FULL ≤ vec_capacity l) in
     subst AreRoomy (sym made) (All-insert P (set lists part low) (part + 1) high (All-set P lists part low lower all) upper)
 
--- ---- a list and the one behind it become one
+-- ---- a list and the one after it become one
 
 -- the lists around two of them
-split_two : (lists : List (Vec Placed)) (part : ℕ) (low high : Vec Placed) → suc part < length lists → low ≡ get_or lists part low → high ≡ get_or lists (suc part) high
+split_two : (lists : List (Vec FrontedSlot)) (part : ℕ) (low high : Vec FrontedSlot) → suc part < length lists → low ≡ get_or lists part low → high ≡ get_or lists (suc part) high
     → lists ≡ take part lists ++ low ∷ high ∷ drop (suc (suc part)) lists
 split_two [] part low high within is next = absurd (omega arith)
 split_two (list ∷ []) part low high within is next = absurd (omega arith)
@@ -347,7 +347,7 @@ split_two (list ∷ other ∷ lists) zero low high within is next = ap (λ l. l 
 split_two (list ∷ other ∷ lists) (suc part) low high within is next = ap (λ ls. list ∷ ls) (split_two (other ∷ lists) part low high (omega arith) is next)
 
 -- one list in the place of two
-joined_two : (front back : List (Vec Placed)) (low high list : Vec Placed) (part : ℕ) → part ≡ length front → set (remove (front ++ low ∷ high ∷ back) (suc part)) part list ≡ front ++ list ∷ back
+joined_two : (front back : List (Vec FrontedSlot)) (low high list : Vec FrontedSlot) (part : ℕ) → part ≡ length front → set (remove (front ++ low ∷ high ∷ back) (suc part)) part list ≡ front ++ list ∷ back
 joined_two [] back low high list zero at = refl
 joined_two [] back low high list (suc part) at = absurd (omega arith)
 joined_two (first ∷ front) back low high list zero at = absurd (omega arith)
@@ -359,8 +359,8 @@ remove_inserted [] (suc n) x h = absurd (omega arith)
 remove_inserted (y ∷ ys) zero x h = refl
 remove_inserted (y ∷ ys) (suc n) x h = ap (λ zs. y ∷ zs) (remove_inserted ys n x (omega arith))
 
--- the second list is taken out, and what it held goes behind what the first one holds
-module _ (lists : List (Vec Placed)) (part : ℕ) (low high list : Vec Placed) (within : part + 1 < length lists) (is : low ≡ get_or (remove lists (part + 1)) part low) (next : high ≡ get_or lists (part + 1) high)
+-- the second list is taken out, and what it held goes after what the first one holds
+module _ (lists : List (Vec FrontedSlot)) (part : ℕ) (low high list : Vec FrontedSlot) (within : part + 1 < length lists) (is : low ≡ get_or (remove lists (part + 1)) part low) (next : high ≡ get_or lists (part + 1) high)
     (few : slice_index (lengths lists) part + slice_index (lengths lists) (part + 1) ≤ FULL) (room : AreRoomy lists) where
   low_is : low ≡ get_or lists part low
   low_is = is ∙ get_or-remove_below lists (part + 1) low part (omega arith) within
@@ -403,7 +403,7 @@ module _ (lists : List (Vec Placed)) (part : ℕ) (low high list : Vec Placed) (
 
     pub joined_room : vec_capacity low ≤ vec_capacity list → AreRoomy (set (remove lists (part + 1)) part list)
     joined_room more =
-        let P : Vec Placed → Type 0 = λ l. (length l.items ≤ FULL) × (FULL ≤ vec_capacity l) in
+        let P : Vec FrontedSlot → Type 0 = λ l. (length l.items ≤ FULL) × (FULL ≤ vec_capacity l) in
         let long : length list.items ≡ length low.items + length high.items = ap length e ∙ length-append low.items high.items in
         let here : (length list.items ≤ FULL) × (FULL ≤ vec_capacity list) = (
           omega (arith, long, few, length_at lists part low (omega arith) low_is, length_at lists (part + 1) high within next),

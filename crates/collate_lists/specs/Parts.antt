@@ -2,13 +2,13 @@
 use Rattle.std.specs.Prelude.{◌≡◌, ℕ, ◌+◌, ◌^◌, ◌<◌, ◌≤◌, List, [], length, slice_index, vec_capacity}
 use Rattle.std.specs.Global.{Vec}
 use Rattle.collate_lists.specs.Lists.{joined, lengths, rank_of, starts_of, AreRoomy}
-use Rattle.collate_lists.specs.Starts.{AreBased, HasPlace, ranks_of}
+use Rattle.collate_lists.specs.Starts.{AreBased, HasSpace, ranks_of}
 use Rattle.collate_lists.specs.declared.list_rows.TheConstants.{FULL}
-use Rattle.collate_lists.specs.declared.windows.Placed.{Placed}
+use Rattle.collate_lists.specs.declared.windows.FrontedSlot.{FrontedSlot}
 use Rattle.collate_lists.specs.declared.parts.Parts.{Parts}
 
--- a list and the one behind it have room in one
-pub record AreJoinable (lists : List (Vec Placed)) (part : ℕ) : Type 0 where
+-- a list and the one after it have room in one
+pub record AreJoinable (lists : List (Vec FrontedSlot)) (part : ℕ) : Type 0 where
   pub within : part + 1 < length lists
   pub few : slice_index (lengths lists) part + slice_index (lengths lists) (part + 1) ≤ FULL
 
@@ -24,7 +24,7 @@ pub record IsSound (parts : Parts) : Type 0 where
 pub record HasRoom (parts : Parts) : Type 0 where
   pub spare : FULL ≤ vec_capacity parts.spare
   pub lists : length parts.lists.items < vec_capacity parts.lists
-  pub starts : HasPlace parts.starts
+  pub starts : HasSpace parts.starts
   pub count : parts.count + 1 < 2 ^ 64
 
 -- they hold the same
@@ -35,13 +35,13 @@ pub record IsSame (old new : Parts) : Type 0 where
   pub spare : new.spare.items ≡ old.spare.items
   pub count : new.count ≡ old.count
 
--- a rank is that of a place in a list, which is one of its values or behind the last
-pub record IsPlaceOf (lists : List (Vec Placed)) (rank part place : ℕ) : Type 0 where
+-- a rank is that of an index in a list, which is one of its values or after the last
+pub record IsIndexOf (lists : List (Vec FrontedSlot)) (rank part index : ℕ) : Type 0 where
   pub within : part < length lists
-  pub upto : place ≤ slice_index (lengths lists) part
-  pub ranked : rank_of lists part place ≡ rank
+  pub upto : index ≤ slice_index (lengths lists) part
+  pub ranked : rank_of lists part index ≡ rank
 
 -- and that list isn't full
-pub record IsFreeFor (lists : List (Vec Placed)) (rank part place : ℕ) : Type 0 where
-  pub at : IsPlaceOf lists rank part place
+pub record IsFreeFor (lists : List (Vec FrontedSlot)) (rank part index : ℕ) : Type 0 where
+  pub at : IsIndexOf lists rank part index
   pub space : slice_index (lengths lists) part < FULL

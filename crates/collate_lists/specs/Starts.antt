@@ -3,7 +3,7 @@ use Rattle.std.specs.Prelude.{ℕ, ◌+◌, ◌*◌, ◌/◌, ◌%◌, ◌^◌, 
 use Rattle.collate_lists.specs.declared.starts.TheConstants.{BLOCK}
 use Rattle.collate_lists.specs.declared.starts.Starts.{Starts}
 
--- this list begins at the rank or before it, and the next one, if there is one, behind it
+-- this list begins at the rank or before it, and the next one, if there is one, after it
 pub record IsAround (starts : List ℕ) (rank index : ℕ) : Type 0 where
   pub within : index < length starts
   pub from : slice_index starts index ≤ rank
@@ -23,6 +23,6 @@ abbrev pub AreBased : Starts → Type 0
 AreBased starts = length starts.offsets.items ≤ BLOCK * length starts.bases.items
 
 -- one rank more takes no memory
-pub record HasPlace (starts : Starts) : Type 0 where
+pub record HasSpace (starts : Starts) : Type 0 where
   pub offsets : length starts.offsets.items < vec_capacity starts.offsets
   pub bases : length starts.offsets.items < BLOCK * length starts.bases.items

@@ -1,4 +1,4 @@
-//! Hashes in a list, each at a place of its own, and the last place of a hash before another one, found without going
+//! Hashes in a list, each at a slot of its own, and the last slot of a hash before another one, found without going
 //! through the list. Begin with `HashList::new` and `hashing::hash_of`.
 
 ghost use Rattle.std.specs.Prelude.{◌≡◌, ℕ, ◌+◌, ◌<◌, ◌==◌, [], ◌∷◌, ◌++◌, IfNone, IfSome, OnOk, filter, length, slice_index, slice_set};
@@ -9,13 +9,13 @@ use crate::hashing::hash_of;
 use std::alloc::{AllocError, Global};
 use std::marker::Model;
 
-/// A list of hashes, each above 0; 0 stands at the places whose hash was taken out. A contract sees the list, the seed of the
+/// A list of hashes, each above 0; 0 stands at the slots whose hash was taken out. A contract sees the list, the seed of the
 /// hashes, and for how many more there is room (`Listed`).
 #[derive(Drop)]
 pub struct HashList {
     alloc: Global,
     seed: u64,
-    /// For each bucket the last place whose hash is in it, counted from 1; 0 if there is none.
+    /// For each bucket the last slot whose hash is in it, counted from 1; 0 if there is none.
     heads: Vec<usize>,
     links: Vec<Link>,
 }
@@ -53,7 +53,7 @@ impl HashList {
         hash_of(self.seed, bytes)
     }
 
-    /// How many places there are.
+    /// How many slots there are.
     pub fn len(&self) -> usize
         ensures { result ≡ length self.now.hashes }
     {
@@ -67,29 +67,29 @@ impl HashList {
         self.links.len() == 0
     }
 
-    /// The last place before an end at which a hash stands. It asks for no memory, and goes through the hashes of one
+    /// The last slot before an end at which a hash stands. It asks for no memory, and goes through the hashes of one
     /// bucket: a few, unless the hashes were chosen to be in one.
     pub fn last_before(&self, hash: usize, end: usize) -> Option<usize>
         requires hash { 0 < hash }
-        ensures before { IfSome result (λ place. place < end) }
-        ensures there { IfSome result (λ place. slice_index self.now.hashes place ≡ hash) }
-        ensures last { IfSome result (λ place. (later : ℕ) → place < later → later < end → slice_index self.now.hashes later ≡ hash → ⊥) }
-        ensures none { IfNone result ((place : ℕ) → place < end → slice_index self.now.hashes place ≡ hash → ⊥) }
+        ensures before { IfSome result (λ slot. slot < end) }
+        ensures there { IfSome result (λ slot. slice_index self.now.hashes slot ≡ hash) }
+        ensures last { IfSome result (λ slot. (later : ℕ) → slot < later → later < end → slice_index self.now.hashes later ≡ hash → ⊥) }
+        ensures none { IfNone result ((slot : ℕ) → slot < end → slice_index self.now.hashes slot ≡ hash → ⊥) }
     {
         last_before(self.heads.as_slice(), self.links.as_slice(), hash, end)
     }
 
-    /// The last place before another one at which the same hash stands. It asks for no memory, and goes on in the bucket
-    /// from there: who looks at all places of a hash goes through its bucket once.
-    pub fn same_before(&self, place: usize) -> Option<usize>
-        requires within { place < length self.now.hashes }
-        requires full { 0 < slice_index self.now.hashes place }
-        ensures before { IfSome result (λ other. other < place) }
-        ensures there { IfSome result (λ other. slice_index self.now.hashes other ≡ slice_index self.now.hashes place) }
-        ensures last { IfSome result (λ other. (later : ℕ) → other < later → later < place → slice_index self.now.hashes later ≡ slice_index self.now.hashes place → ⊥) }
-        ensures none { IfNone result ((other : ℕ) → other < place → slice_index self.now.hashes other ≡ slice_index self.now.hashes place → ⊥) }
+    /// The last slot before another one at which the same hash stands. It asks for no memory, and goes on in the bucket
+    /// from there: who looks at all slots of a hash goes through its bucket once.
+    pub fn same_before(&self, slot: usize) -> Option<usize>
+        requires within { slot < length self.now.hashes }
+        requires full { 0 < slice_index self.now.hashes slot }
+        ensures before { IfSome result (λ other. other < slot) }
+        ensures there { IfSome result (λ other. slice_index self.now.hashes other ≡ slice_index self.now.hashes slot) }
+        ensures last { IfSome result (λ other. (later : ℕ) → other < later → later < slot → slice_index self.now.hashes later ≡ slice_index self.now.hashes slot → ⊥) }
+        ensures none { IfNone result ((other : ℕ) → other < slot → slice_index self.now.hashes other ≡ slice_index self.now.hashes slot → ⊥) }
     {
-        same_before(self.heads.as_slice(), self.links.as_slice(), place)
+        same_before(self.heads.as_slice(), self.links.as_slice(), slot)
     }
 
     /// Makes room for one hash more. Memory that is left over, as once many were dropped, is given back first. An error if
@@ -102,7 +102,7 @@ impl HashList {
         reserve(self.alloc, &mut self.heads, &mut self.links)
     }
 
-    /// Puts a hash behind the others. It asks for no memory: `reserve` makes room.
+    /// Puts a hash after the others. It asks for no memory: `reserve` makes room.
     pub fn push(&mut self, hash: usize)
         requires hash { 0 < hash }
         requires room { 0 < self.old.room }
@@ -112,16 +112,16 @@ impl HashList {
         push(&mut self.heads, &mut self.links, hash);
     }
 
-    /// Takes the hash at a place out: 0 stands there from then on. It asks for no memory.
-    pub fn take_out(&mut self, place: usize)
-        requires { place < length self.old.hashes }
-        ensures hashes { self.new.hashes ≡ slice_set self.old.hashes place 0 }
+    /// Takes the hash at a slot out: 0 stands there from then on. It asks for no memory.
+    pub fn take_out(&mut self, slot: usize)
+        requires { slot < length self.old.hashes }
+        ensures hashes { self.new.hashes ≡ slice_set self.old.hashes slot 0 }
         ensures seed { self.new.seed ≡ self.old.seed }
     {
-        take_out(&mut self.heads, &mut self.links, place);
+        take_out(&mut self.heads, &mut self.links, slot);
     }
 
-    /// Drops the places whose hash was taken out. It asks for no memory.
+    /// Drops the slots whose hash was taken out. It asks for no memory.
     pub fn drop_empty(&mut self)
         ensures hashes { self.new.hashes ≡ filter is_hash self.old.hashes }
         ensures seed { self.new.seed ≡ self.old.seed }

@@ -4,7 +4,7 @@ ghost use Rattle.std.specs.Prelude.{◌≡◌, ◌+◌, ◌-◌, ◌<◌, ◌≤
 ghost use Rattle.collate_lists.specs.Lists.{joined, lengths, rank_of, starts_of, raised, lowered, renumbered, AreRoomy};
 ghost use Rattle.collate_lists.specs.Parts.{AreJoinable};
 
-use crate::windows::Placed;
+use crate::windows::FrontedSlot;
 
 /// How many values a list holds at most. Each has memory for so many.
 pub(crate) const FULL: usize = 512;
@@ -12,37 +12,37 @@ pub(crate) const FULL: usize = 512;
 /// How many are left in a list that was full and is now two.
 pub(crate) const HALF: usize = 256;
 
-/// Puts a value at a place of a list.
-pub(crate) fn put(lists: &mut Vec<Vec<Placed>>, part: usize, place: usize, value: Placed)
+/// Puts a value at an index of a list.
+pub(crate) fn put(lists: &mut Vec<Vec<FrontedSlot>>, part: usize, index: usize, value: FrontedSlot)
     requires room { AreRoomy lists.old.items }
     requires part { part < length lists.old.items }
-    requires place { place ≤ slice_index (lengths lists.old.items) part }
+    requires index { index ≤ slice_index (lengths lists.old.items) part }
     requires space { slice_index (lengths lists.old.items) part < FULL }
-    ensures values { joined lists.new.items ≡ insert (joined lists.old.items) (rank_of lists.old.items part place) value }
+    ensures values { joined lists.new.items ≡ insert (joined lists.old.items) (rank_of lists.old.items part index) value }
     ensures starts { starts_of lists.new.items ≡ raised (part + 1) (starts_of lists.old.items) }
     ensures room { AreRoomy lists.new.items }
 {
     let list = &mut lists[part];
-    let _ = list.insert(place, value);
+    let _ = list.insert(index, value);
 }
 
-/// Takes the value at a place of a list out, and answers it.
-pub(crate) fn take_out(lists: &mut Vec<Vec<Placed>>, part: usize, place: usize) -> Placed
+/// Takes the value at an index of a list out, and answers it.
+pub(crate) fn take_out(lists: &mut Vec<Vec<FrontedSlot>>, part: usize, index: usize) -> FrontedSlot
     requires room { AreRoomy lists.old.items }
     requires part { part < length lists.old.items }
-    requires place { place < slice_index (lengths lists.old.items) part }
-    ensures value { slice_get (joined lists.old.items) (rank_of lists.old.items part place) ≡ Some result }
-    ensures values { joined lists.new.items ≡ remove (joined lists.old.items) (rank_of lists.old.items part place) }
+    requires index { index < slice_index (lengths lists.old.items) part }
+    ensures value { slice_get (joined lists.old.items) (rank_of lists.old.items part index) ≡ Some result }
+    ensures values { joined lists.new.items ≡ remove (joined lists.old.items) (rank_of lists.old.items part index) }
     ensures starts { starts_of lists.new.items ≡ lowered (part + 1) (starts_of lists.old.items) }
     ensures count { length lists.new.items ≡ length lists.old.items }
     ensures room { AreRoomy lists.new.items }
 {
     let list = &mut lists[part];
-    list.remove(place)
+    list.remove(index)
 }
 
 /// Moves the second half of a full list into an empty one, which has memory for a full one.
-fn cut(list: &mut Vec<Placed>, empty: Vec<Placed>) -> Vec<Placed>
+fn cut(list: &mut Vec<FrontedSlot>, empty: Vec<FrontedSlot>) -> Vec<FrontedSlot>
     requires full { length list.old.items ≡ FULL }
     requires empty { empty.items ≡ [] }
     requires memory { FULL ≤ vec_capacity empty }
@@ -57,8 +57,8 @@ fn cut(list: &mut Vec<Placed>, empty: Vec<Placed>) -> Vec<Placed>
     upper
 }
 
-/// Moves the second half of a full list into a list of its own behind it. An empty one is given for it, and there is room.
-pub(crate) fn halve(lists: &mut Vec<Vec<Placed>>, part: usize, empty: Vec<Placed>)
+/// Moves the second half of a full list into a list of its own after it. An empty one is given for it, and there is room.
+pub(crate) fn halve(lists: &mut Vec<Vec<FrontedSlot>>, part: usize, empty: Vec<FrontedSlot>)
     requires room { AreRoomy lists.old.items }
     requires part { part < length lists.old.items }
     requires full { slice_index (lengths lists.old.items) part ≡ FULL }
@@ -74,8 +74,8 @@ pub(crate) fn halve(lists: &mut Vec<Vec<Placed>>, part: usize, empty: Vec<Placed
     let _ = lists.insert(part + 1, upper);
 }
 
-/// Makes a list one with the list behind it, within the memory that it has.
-pub(crate) fn join(lists: &mut Vec<Vec<Placed>>, part: usize)
+/// Makes a list one with the list after it, within the memory that it has.
+pub(crate) fn join(lists: &mut Vec<Vec<FrontedSlot>>, part: usize)
     requires room { AreRoomy lists.old.items }
     requires few { AreJoinable lists.old.items part }
     ensures values { joined lists.new.items ≡ joined lists.old.items }
@@ -88,7 +88,7 @@ pub(crate) fn join(lists: &mut Vec<Vec<Placed>>, part: usize)
 }
 
 /// Lets go of a list with no values.
-pub(crate) fn let_go(lists: &mut Vec<Vec<Placed>>, part: usize)
+pub(crate) fn let_go(lists: &mut Vec<Vec<FrontedSlot>>, part: usize)
     requires room { AreRoomy lists.old.items }
     requires part { part < length lists.old.items }
     requires empty { slice_index (lengths lists.old.items) part ≡ 0 }
@@ -100,20 +100,20 @@ pub(crate) fn let_go(lists: &mut Vec<Vec<Placed>>, part: usize)
 }
 
 /// Puts in place of each value of a list the number that stands at it.
-fn renumber_list(list: &mut Vec<Placed>, numbers: &[usize])
-    requires { All (λ value. value.place < length numbers.now) list.old.items }
+fn renumber_list(list: &mut Vec<FrontedSlot>, numbers: &[usize])
+    requires { All (λ value. value.slot < length numbers.now) list.old.items }
     ensures values { list.new.items ≡ renumbered numbers.now list.old.items }
     ensures memory { vec_capacity list.new ≡ vec_capacity list.old }
 {
     for value in list.iter_mut() {
-        value.place = numbers[value.place];
+        value.slot = numbers[value.slot];
     }
 }
 
 /// Puts in place of each value the number that stands at it.
-pub(crate) fn renumber(lists: &mut Vec<Vec<Placed>>, numbers: &[usize])
+pub(crate) fn renumber(lists: &mut Vec<Vec<FrontedSlot>>, numbers: &[usize])
     requires room { AreRoomy lists.old.items }
-    requires numbers { All (λ value. value.place < length numbers.now) (joined lists.old.items) }
+    requires numbers { All (λ value. value.slot < length numbers.now) (joined lists.old.items) }
     ensures values { joined lists.new.items ≡ renumbered numbers.now (joined lists.old.items) }
     ensures starts { starts_of lists.new.items ≡ starts_of lists.old.items }
     ensures room { AreRoomy lists.new.items }

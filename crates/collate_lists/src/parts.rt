@@ -2,12 +2,12 @@
 
 ghost use Rattle.std.specs.Prelude.{◌≡◌, ℕ, ◌+◌, ◌-◌, ◌++◌, ◌<◌, ◌≤◌, ◌∷◌, [], All, IsTrue, length, Some, OnOk, insert, remove, slice_get, slice_index};
 ghost use Rattle.collate_lists.specs.Lists.{joined, lengths, rank_of, renumbered};
-ghost use Rattle.collate_lists.specs.Parts.{IsSound, HasRoom, IsSame, IsPlaceOf, IsFreeFor, AreJoinable};
+ghost use Rattle.collate_lists.specs.Parts.{IsSound, HasRoom, IsSame, IsIndexOf, IsFreeFor, AreJoinable};
 ghost use Rattle.collate_lists.specs.Windows.{shows};
 
 use crate::list_rows::{FULL, HALF, halve, join, let_go, put, renumber, take_out};
 use crate::starts::Starts;
-use crate::windows::{Placed, Window};
+use crate::windows::{FrontedSlot, Window};
 use std::alloc::{AllocError, Global};
 use std::mem;
 
@@ -17,11 +17,11 @@ const JOINED: usize = 384;
 /// Lists in a row.
 #[derive(Drop)]
 pub(crate) struct Parts {
-    pub(crate) lists: Vec<Vec<Placed>>,
+    pub(crate) lists: Vec<Vec<FrontedSlot>>,
     /// The rank at which each list begins.
     pub(crate) starts: Starts,
     /// The next list, with nothing in it.
-    pub(crate) spare: Vec<Placed>,
+    pub(crate) spare: Vec<FrontedSlot>,
     /// How many values there are.
     pub(crate) count: usize,
 }
@@ -65,12 +65,12 @@ impl Parts {
         self.starts.shrink();
     }
 
-    /// The list and the place in it of a rank.
+    /// The list and the index in it of a rank.
     fn find(&self, rank: usize) -> (usize, usize)
         requires sound { IsSound self.now }
         requires any { 0 < length self.now.lists.items }
         requires rank { rank ≤ self.now.count }
-        ensures place { IsPlaceOf self.now.lists.items rank result.0 result.1 }
+        ensures index { IsIndexOf self.now.lists.items rank result.0 result.1 }
         ensures inside { rank < self.now.count → result.1 < slice_index (lengths self.now.lists.items) result.0 }
     {
         let part = self.starts.around(rank, 0, usize::MAX);
@@ -78,33 +78,29 @@ impl Parts {
     }
 
     /// The value at a rank.
-    pub(crate) fn at(&self, rank: usize) -> Placed
+    pub(crate) fn at(&self, rank: usize) -> FrontedSlot
         requires sound { IsSound self.now }
         requires rank { rank < self.now.count }
         ensures { slice_get (joined self.now.lists.items) rank ≡ Some result }
     {
-        let (part, place) = self.find(rank);
+        let (part, index) = self.find(rank);
         let list = &self.lists[part];
-        list[place]
+        list[index]
     }
 
     /// The list of a rank, which is looked for between two lists first.
     pub(crate) fn around(&self, rank: usize, first: usize, last: usize) -> Window<'_>
         requires sound { IsSound self.now }
         requires rank { rank < self.now.count }
-        ensures shown { shows (joined self.now.lists.items) result.start result.places.now }
+        ensures shown { shows (joined self.now.lists.items) result.start result.slots.now }
         ensures from { result.start ≤ rank }
-        ensures before { rank < result.start + length result.places.now }
+        ensures before { rank < result.start + length result.slots.now }
     {
         let part = self.starts.around(rank, first, last);
         let start = self.starts.at(part);
         let list = &self.lists[part];
-        let places = list.as_slice();
-        Window {
-            part,
-            start,
-            places,
-        }
+        let slots = list.as_slice();
+        Window { part, start, slots }
     }
 
     /// Takes the spare list for the last.
@@ -130,8 +126,8 @@ impl Parts {
         requires full { slice_index (lengths self.old.lists.items) part ≡ FULL }
         ensures sound { IsSound self.new }
         ensures values { joined self.new.lists.items ≡ joined self.old.lists.items }
-        ensures lower { (rank place : ℕ) → IsPlaceOf self.old.lists.items rank part place → place ≤ HALF → IsFreeFor self.new.lists.items rank part place }
-        ensures upper { (rank place : ℕ) → IsPlaceOf self.old.lists.items rank part place → HALF < place → IsFreeFor self.new.lists.items rank (part + 1) (place - HALF) }
+        ensures lower { (rank index : ℕ) → IsIndexOf self.old.lists.items rank part index → index ≤ HALF → IsFreeFor self.new.lists.items rank part index }
+        ensures upper { (rank index : ℕ) → IsIndexOf self.old.lists.items rank part index → HALF < index → IsFreeFor self.new.lists.items rank (part + 1) (index - HALF) }
         ensures count { self.new.count ≡ self.old.count }
     {
         let empty = mem::replace(&mut self.spare, Vec::new(*self.lists.allocator()));
@@ -140,8 +136,8 @@ impl Parts {
         self.starts.insert(part + 1, start);
     }
 
-    /// The list and the place in it where a value goes that is put at a rank. That list isn't full.
-    fn free_place(&mut self, rank: usize) -> (usize, usize)
+    /// The list and the index in it where a value goes that is put at a rank. That list isn't full.
+    fn free_index(&mut self, rank: usize) -> (usize, usize)
         requires sound { IsSound self.old }
         requires room { HasRoom self.old }
         requires rank { rank ≤ self.old.count }
@@ -154,47 +150,47 @@ impl Parts {
             self.append();
             return (0, 0);
         }
-        let (part, place) = self.find(rank);
+        let (part, index) = self.find(rank);
         if self.lists[part].len() < FULL {
-            return (part, place);
+            return (part, index);
         }
         self.split(part);
-        if place <= HALF {
-            (part, place)
+        if index <= HALF {
+            (part, index)
         } else {
-            (part + 1, place - HALF)
+            (part + 1, index - HALF)
         }
     }
 
-    /// Puts a value at a place of a list, which isn't full.
-    fn put_at(&mut self, part: usize, place: usize, value: Placed)
+    /// Puts a value at an index of a list, which isn't full.
+    fn put_at(&mut self, part: usize, index: usize, value: FrontedSlot)
         requires sound { IsSound self.old }
         requires count { self.old.count < usize.MAX }
-        requires rank { rank_of self.old.lists.items part place ≤ self.old.count }
-        requires free { IsFreeFor self.old.lists.items (rank_of self.old.lists.items part place) part place }
+        requires rank { rank_of self.old.lists.items part index ≤ self.old.count }
+        requires free { IsFreeFor self.old.lists.items (rank_of self.old.lists.items part index) part index }
         ensures sound { IsSound self.new }
-        ensures values { joined self.new.lists.items ≡ insert (joined self.old.lists.items) (rank_of self.old.lists.items part place) value }
+        ensures values { joined self.new.lists.items ≡ insert (joined self.old.lists.items) (rank_of self.old.lists.items part index) value }
     {
-        put(&mut self.lists, part, place, value);
+        put(&mut self.lists, part, index, value);
         self.starts.raise(part + 1);
         self.count += 1;
     }
 
     /// Puts a value at a rank. There is room.
-    pub(crate) fn insert(&mut self, rank: usize, value: Placed)
+    pub(crate) fn insert(&mut self, rank: usize, value: FrontedSlot)
         requires sound { IsSound self.old }
         requires room { HasRoom self.old }
         requires rank { rank ≤ self.old.count }
         ensures sound { IsSound self.new }
         ensures values { joined self.new.lists.items ≡ insert (joined self.old.lists.items) rank value }
     {
-        let (part, place) = self.free_place(rank);
-        self.put_at(part, place, value);
+        let (part, index) = self.free_index(rank);
+        self.put_at(part, index, value);
     }
 
-    /// The last list and the place in it where a value goes behind all others. That list isn't full: where the last is, it
+    /// The last list and the index in it where a value goes after all others. That list isn't full: where the last is, it
     /// is a new one.
-    fn last_place(&mut self) -> (usize, usize)
+    fn last_index(&mut self) -> (usize, usize)
         requires sound { IsSound self.old }
         requires room { HasRoom self.old }
         ensures sound { IsSound self.new }
@@ -204,43 +200,43 @@ impl Parts {
     {
         let lists = self.lists.len();
         if lists > 0 {
-            let place = self.lists[lists - 1].len();
-            if place < FULL {
-                return (lists - 1, place);
+            let index = self.lists[lists - 1].len();
+            if index < FULL {
+                return (lists - 1, index);
             }
         }
         self.append();
         (lists, 0)
     }
 
-    /// Puts a value behind all others. There is room.
-    pub(crate) fn push(&mut self, value: Placed)
+    /// Puts a value after all others. There is room.
+    pub(crate) fn push(&mut self, value: FrontedSlot)
         requires sound { IsSound self.old }
         requires room { HasRoom self.old }
         ensures sound { IsSound self.new }
         ensures values { joined self.new.lists.items ≡ joined self.old.lists.items ++ value ∷ [] }
     {
-        let (part, place) = self.last_place();
-        self.put_at(part, place, value);
+        let (part, index) = self.last_index();
+        self.put_at(part, index, value);
     }
 
     /// Takes the value at a rank out, and answers it.
-    pub(crate) fn remove(&mut self, rank: usize) -> Placed
+    pub(crate) fn remove(&mut self, rank: usize) -> FrontedSlot
         requires sound { IsSound self.old }
         requires rank { rank < self.old.count }
         ensures sound { IsSound self.new }
         ensures value { slice_get (joined self.old.lists.items) rank ≡ Some result }
         ensures values { joined self.new.lists.items ≡ remove (joined self.old.lists.items) rank }
     {
-        let (part, place) = self.find(rank);
-        let value = take_out(&mut self.lists, part, place);
+        let (part, index) = self.find(rank);
+        let value = take_out(&mut self.lists, part, index);
         self.starts.lower(part + 1);
         self.count -= 1;
         self.tidy(part);
         value
     }
 
-    /// Lets go of a list with no values, and makes it one with the list behind it or before it if they hold few.
+    /// Lets go of a list with no values, and makes it one with the list after it or before it if they hold few.
     fn tidy(&mut self, part: usize)
         requires sound { IsSound self.old }
         requires part { part < length self.old.lists.items }
@@ -257,7 +253,7 @@ impl Parts {
         }
     }
 
-    /// Whether a list and the one behind it hold few values.
+    /// Whether a list and the one after it hold few values.
     fn are_few(&self, part: usize) -> bool
         requires sound { IsSound self.now }
         requires part { part < length self.now.lists.items }
@@ -266,7 +262,7 @@ impl Parts {
         part + 1 < self.lists.len() && self.lists[part].len() + self.lists[part + 1].len() <= JOINED
     }
 
-    /// Makes a list one with the list behind it.
+    /// Makes a list one with the list after it.
     fn join(&mut self, part: usize)
         requires sound { IsSound self.old }
         requires few { AreJoinable self.old.lists.items part }
@@ -277,10 +273,10 @@ impl Parts {
         self.starts.remove(part + 1);
     }
 
-    /// Puts in place of each value the number that stands at it.
+    /// Puts in index of each value the number that stands at it.
     pub(crate) fn renumber(&mut self, numbers: &[usize])
         requires sound { IsSound self.old }
-        requires numbers { All (λ value. value.place < length numbers.now) (joined self.old.lists.items) }
+        requires numbers { All (λ value. value.slot < length numbers.now) (joined self.old.lists.items) }
         ensures sound { IsSound self.new }
         ensures values { joined self.new.lists.items ≡ renumbered numbers.now (joined self.old.lists.items) }
     {

@@ -2,7 +2,7 @@
 
 ghost use Rattle.std.specs.Prelude.{◌≡◌, ℕ, ◌+◌, ◌*◌, ◌/◌, ◌%◌, ◌^◌, ◌<◌, ◌≤◌, [], All, drop, length, insert, remove, OnOk, slice_index, vec_capacity};
 ghost use Rattle.collate_lists.specs.Lists.{raised, lowered};
-ghost use Rattle.collate_lists.specs.Starts.{AreBased, HasPlace, IsAround, ranks_from, ranks_of};
+ghost use Rattle.collate_lists.specs.Starts.{AreBased, HasSpace, IsAround, ranks_from, ranks_of};
 
 use std::alloc::{AllocError, Global};
 
@@ -112,7 +112,7 @@ impl Starts {
         requires { AreBased self.old }
         ensures same { ranks_of self.new ≡ ranks_of self.old }
         ensures based { AreBased self.new }
-        ensures room { OnOk result (HasPlace self.new) }
+        ensures room { OnOk result (HasSpace self.new) }
     {
         add_block(&mut self.bases, self.offsets.len())?;
         self.offsets.reserve(1)
@@ -142,7 +142,7 @@ impl Starts {
 
     /// Puts a rank at an index. There is room.
     pub(crate) fn insert(&mut self, index: usize, rank: usize)
-        requires room { HasPlace self.old }
+        requires room { HasSpace self.old }
         requires index { index ≤ length (ranks_of self.old) }
         ensures ranks { ranks_of self.new ≡ insert (ranks_of self.old) index rank }
         ensures based { AreBased self.new }
@@ -230,7 +230,7 @@ impl Starts {
         }
     }
 
-    /// The list that begins at a rank or before it, where the next one begins behind it. It is looked for between two
+    /// The list that begins at a rank or before it, where the next one begins after it. It is looked for between two
     /// lists first.
     pub(crate) fn around(&self, rank: usize, first: usize, last: usize) -> usize
         requires any { 0 < length (ranks_of self.now) }

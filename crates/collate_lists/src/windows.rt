@@ -1,24 +1,24 @@
-//! What stands in a list of places: a place with the front of what it is the place of, and a part of a list that is lent.
+//! What stands in a list of slots: a slot with the front of what it keeps, and a part of a list that is lent.
 
 use crate::fronts::Front;
 
-/// A place with the front of what stands there, by which most of what stands at places can be compared, so that a search
+/// A slot with the front of what stands there, by which most of what stands at slots can be compared, so that a search
 /// need not look there.
 #[derive(Clone, Copy)]
-pub struct Placed {
+pub struct FrontedSlot {
     /// The front.
     pub front: Front,
-    /// The place.
-    pub place: usize,
+    /// The slot.
+    pub slot: usize,
 }
 
-/// A part of a list of places, lent.
+/// A part of a list of slots, lent.
 #[derive(Clone, Copy)]
 pub struct Window<'a> {
     /// Which part it is.
     pub part: usize,
-    /// The rank of its first place.
+    /// The rank of its first slot.
     pub start: usize,
-    /// Its places.
-    pub places: &'a [Placed],
+    /// Its slots.
+    pub slots: &'a [FrontedSlot],
 }

@@ -232,26 +232,26 @@ fn step_or_put(
     }
 }
 
-/// Puts a character before a list, behind the marks of a lower class. `AllocError` where memory is refused.
+/// Puts a character before a list, after the marks of a lower class. `AllocError` where memory is refused.
 fn put_in_order(parts: &CanonicalParts, c: char, list: &mut Vec<char>) -> Result<(), AllocError>
     ensures { OnOk result (list.new.items ≡ put_in_order (class_of (map in_full parts.now.list.items)) c list.old.items) }
 {
-    let place = place_in_order(parts, c, list);
-    list.insert(place, c)?;
+    let index = place_in_order(parts, c, list);
+    list.insert(index, c)?;
     Ok(())
 }
 
 /// How many marks of a lower class stand at the front of a list.
 fn place_in_order(parts: &CanonicalParts, c: char, list: &[char]) -> usize
     ensures within { result ≤ length list.now }
-    ensures place { put_in_order (class_of (map in_full parts.now.list.items)) c list.now ≡ take result list.now ++ c ∷ drop result list.now }
+    ensures index { put_in_order (class_of (map in_full parts.now.list.items)) c list.now ≡ take result list.now ++ c ∷ drop result list.now }
 {
     let class = parts.class_of(c);
-    let mut place = 0;
-    while place < list.len() && is_mark_below(parts.class_of(list[place]), class) {
-        place += 1;
+    let mut index = 0;
+    while index < list.len() && is_mark_below(parts.class_of(list[index]), class) {
+        index += 1;
     }
-    place
+    index
 }
 
 /// Whether a class is that of a mark, and below the other.

@@ -23,7 +23,7 @@ pub(crate) struct Ahead {
 }
 
 /// The fronts of the full lists of characters and of all that steps lead to from them; none where steps lead in a loop. Fails
-/// only when out of memory.
+/// only if memory is refused.
 pub(crate) fn fronts_from<S: Steps>(
     alloc: Global,
     steps: &S,
@@ -37,7 +37,7 @@ pub(crate) fn fronts_from<S: Steps>(
     }
 }
 
-/// The fronts of the full lists of characters, each of which stands behind those that its step gives.
+/// The fronts of the full lists of characters, each of which stands after those that its step gives.
 fn fronts_in_order<S: Steps>(
     alloc: Global,
     steps: &S,
@@ -104,7 +104,7 @@ fn joined_fronts(fronts: &BTreeMap<char, Front>, characters: &[char]) -> Option<
     Some(front)
 }
 
-/// The front of two lists, one behind the other.
+/// The front of two lists, one after the other.
 fn joined(front: Front, more: Front) -> Front
     ensures { (xs ys : List ℕ) → IsFront front xs → IsFront more ys → IsFront result (xs ++ ys) }
 {
@@ -114,7 +114,7 @@ fn joined(front: Front, more: Front) -> Front
     }
 }
 
-/// The front of what at most 0x110000 steps, one after another, leave of a character. Fails only when out of memory.
+/// The front of what at most 0x110000 steps, one after another, leave of a character. Fails only if memory is refused.
 pub(crate) fn followed<S: Steps>(alloc: Global, steps: &S, c: char) -> Result<Front, AllocError>
     ensures { IfOk result (λ front. IsFront front (expanded (S.step steps.now) 1114112 c)) }
 {

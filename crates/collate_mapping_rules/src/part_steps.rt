@@ -28,7 +28,7 @@ impl Steps for PartSteps<'_> {
     }
 }
 
-/// The characters of which parts say something, in their order. Fails only when out of memory.
+/// The characters of which parts say something, in their order. Fails only if memory is refused.
 pub(crate) fn subjects(alloc: Global, parts: &CanonicalParts) -> Result<Vec<char>, AllocError>
     ensures { IfOk result (λ subjects. subjects.items ≡ map subject_of parts.now.list.items) }
 {

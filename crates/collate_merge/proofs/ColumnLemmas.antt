@@ -22,7 +22,7 @@ unfolding behind_fields
 none_left separator zero = refl
 none_left separator (suc n) = ap (behind_fields separator n) (nothing_behind separator) ∙ none_left separator n
 
--- behind nothing is nothing
+-- after nothing is nothing
 pub behind_none : (separator : Separator) (n : ℕ) (line : List ℕ) → length line ≡ 0 → behind_fields separator n line ≡ line
 behind_none separator n [] none = none_left separator n
 behind_none separator n (byte ∷ line) none = absurd (omega arith)

@@ -24,7 +24,7 @@ module _ {A : Type 0} (R : A → A → Ordering) where
   placed_first x [] h = refl
   placed_first x (z ∷ zs) h = ap (λ b. cond b (z ∷ placed_before R x zs) (x ∷ z ∷ zs)) (All-head (λ y. is_greater (R x y) ≡ false) z zs h)
 
-  -- a value below all those before it and above none behind it is the first in order
+  -- a value below all those before it and above none after it is the first in order
   first_out : (x : A) (front back : List A) → All (λ y. is_greater (R y x) ≡ true) front → All (λ y. is_greater (R x y) ≡ false) back
       → in_order R (front ++ x ∷ back) ≡ x ∷ in_order R (front ++ back)
   unfolding in_order placed_before
@@ -70,7 +70,7 @@ module _ {A : Type 0} (R : A → A → Ordering) (o : IsTotalOrder R) where
   written_all false xs = refl
   written_all true xs = sym (first_kept R o (in_order R xs) (Rises-in_order R o xs))
 
-  -- the first value of a list, if it is below those of the lists before and above none of those behind, is the first of all
+  -- the first value of a list, if it is below those of the lists before and above none of those after it, is the first of all
   pub head_out : (before behind : List (List A)) (x : A) (more : List A) → All (StartsAbove R x) before → All (StartsUpto R x) behind
       → in_order R (flat_map (ordered_part R) (before ++ (x ∷ more) ∷ behind)) ≡ x ∷ in_order R (flat_map (ordered_part R) before ++ (ordered_behind R x more ++ flat_map (ordered_part R) behind))
   head_out before behind x more above upto =

@@ -93,43 +93,43 @@ module _ {A : Type 0} (R : A → A → Ordering) (o : IsTotalOrder R) (unique : 
     pub ended : ((k : ℕ) → k < length parts → get_or lefts k [] ≡ []) → merged unique R parts ≡ written
     ended none = sym (ap (put_in_order unique R) (all_whole R parts (ended_whole none))) ∙ ended_ordered none
 
-    module _ (place : ℕ) (within : place < length parts) (x : A) (more : List A) (left_is : get_or lefts place [] ≡ x ∷ more)
-        (above : All (StartsAbove R x) (take place lefts)) (upto : All (StartsUpto R x) (drop (suc place) lefts)) where
-      split : lefts ≡ take place lefts ++ (x ∷ more) ∷ drop (suc place) lefts
-      split = sym (set-get_or lefts place []) ∙ set_split lefts place (get_or lefts place []) (omega (arith, h.long)) ∙ ap (λ (xs : List A). take place lefts ++ xs ∷ drop (suc place) lefts) left_is
+    module _ (index : ℕ) (within : index < length parts) (x : A) (more : List A) (left_is : get_or lefts index [] ≡ x ∷ more)
+        (above : All (StartsAbove R x) (take index lefts)) (upto : All (StartsUpto R x) (drop (suc index) lefts)) where
+      split : lefts ≡ take index lefts ++ (x ∷ more) ∷ drop (suc index) lefts
+      split = sym (set-get_or lefts index []) ∙ set_split lefts index (get_or lefts index []) (omega (arith, h.long)) ∙ ap (λ (xs : List A). take index lefts ++ xs ∷ drop (suc index) lefts) left_is
 
-      -- what is written of x stands behind what was written
+      -- what is written of x stands after what was written
       pub next_written : (others : List A) × (ordered_parts_merged unique R parts ≡ written ++ (written_of unique R last x ++ others))
       next_written =
-          let rest : List A = in_order R (flat_map (ordered_part R) (take place lefts) ++ (ordered_behind R x more ++ flat_map (ordered_part R) (drop (suc place) lefts))) in (
+          let rest : List A = in_order R (flat_map (ordered_part R) (take index lefts) ++ (ordered_behind R x more ++ flat_map (ordered_part R) (drop (suc index) lefts))) in (
             all_written unique R (last_behind unique R last x) rest,
             h.made
                 ∙ ap (λ (ls : List (List A)). written ++ all_written unique R last (in_order R (flat_map (ordered_part R) ls))) split
-                ∙ ap (λ (xs : List A). written ++ all_written unique R last xs) (head_out R o (take place lefts) (drop (suc place) lefts) x more above upto)
+                ∙ ap (λ (xs : List A). written ++ all_written unique R last xs) (head_out R o (take index lefts) (drop (suc index) lefts) x more above upto)
                 ∙ ap (λ (xs : List A). written ++ xs) (written_more R unique last x rest),
           )
 
       -- and the merge goes on with what is left behind x
-      pub went_on : StartsUpto R x more → Merging unique R parts (set lefts place more) (last_behind unique R last x) (written ++ written_of unique R last x)
+      pub went_on : StartsUpto R x more → Merging unique R parts (set lefts index more) (last_behind unique R last x) (written ++ written_of unique R last x)
       went_on next =
-          let within' : place < length lefts = omega (arith, h.long, within) in
-          let rest : List A = in_order R (flat_map (ordered_part R) (take place lefts ++ more ∷ drop (suc place) lefts)) in
+          let within' : index < length lefts = omega (arith, h.long, within) in
+          let rest : List A = in_order R (flat_map (ordered_part R) (take index lefts ++ more ∷ drop (suc index) lefts)) in
           record {
-            long = length-set lefts place more ∙ h.long;
+            long = length-set lefts index more ∙ h.long;
             each = λ k l.
                 ⊎_elim
-                (λ (same : k ≡ place).
-                let now : get_or (set lefts place more) k [] ≡ more = ap (λ (n : ℕ). get_or (set lefts place more) n []) same ∙ get_or-set_same lefts place more [] within' in
+                (λ (same : k ≡ index).
+                let now : get_or (set lefts index more) k [] ≡ more = ap (λ (n : ℕ). get_or (set lefts index more) n []) same ∙ get_or-set_same lefts index more [] within' in
                 subst (HasPassed R (get_or parts k [])) (sym now)
                 (passed_more R (get_or parts k []) (get_or lefts k []) more x (h.each k l) (ap (λ (n : ℕ). get_or lefts n []) same ∙ left_is) next))
-                (λ other. subst (HasPassed R (get_or parts k [])) (sym (get_or-set_other lefts place k more [] other)) (h.each k l))
-                (cases_eq k place);
+                (λ other. subst (HasPassed R (get_or parts k [])) (sym (get_or-set_other lefts index k more [] other)) (h.each k l))
+                (cases_eq k index);
             made =
                 h.made
                 ∙ ap (λ (ls : List (List A)). written ++ all_written unique R last (in_order R (flat_map (ordered_part R) ls))) split
-                ∙ ap (λ (xs : List A). written ++ all_written unique R last xs) (step_out R o (take place lefts) (drop (suc place) lefts) x more above upto next)
+                ∙ ap (λ (xs : List A). written ++ all_written unique R last xs) (step_out R o (take index lefts) (drop (suc index) lefts) x more above upto next)
                 ∙ ap (λ (xs : List A). written ++ xs) (written_more R unique last x rest)
                 ∙ sym (append_assoc written (written_of unique R last x) (all_written unique R (last_behind unique R last x) rest))
                 ∙ sym (ap (λ (ls : List (List A)). (written ++ written_of unique R last x) ++ all_written unique R (last_behind unique R last x) (in_order R (flat_map (ordered_part R) ls)))
-                (set_split lefts place more within'));
+                (set_split lefts index more within'));
           }

@@ -27,13 +27,13 @@ module _ {R : Type 0} (remaining : R → Option (List ℕ)) (readers : List R) (
       ∙ ap (λ (os : List (Option (List ℕ))). get_or os k (Some [])) known
       ∙ get_or-map (λ (file : List ℕ). Some file) files k [] (Some []) (omega (arith, as_many))
 
-  -- a fault of opening the reader of a place
-  pub reading_true : (m : Merge) (place : ℕ) → place < length readers → (fault : MergeError) → IsOfReading place fault → IsTrueOf m files fault
-  reading_true m place within (Read reader error) h = omega (arith, h, as_many)
-  reading_true m place within (Unordered reader line) h = absurd h
-  reading_true m place within (Write error) h = absurd h
-  reading_true m place within Memory h = tt
-  reading_true m place within TooManyLines h = tt
+  -- a fault of opening the reader of an index
+  pub reading_true : (m : Merge) (index : ℕ) → index < length readers → (fault : MergeError) → IsOfReading index fault → IsTrueOf m files fault
+  reading_true m index within (Read reader error) h = omega (arith, h, as_many)
+  reading_true m index within (Unordered reader line) h = absurd h
+  reading_true m index within (Write error) h = absurd h
+  reading_true m index within Memory h = tt
+  reading_true m index within TooManyLines h = tt
 
 module _ {R : Type 0} (remaining : R → Option (List ℕ)) (m : Merge) (files : List (List ℕ)) where
   pub opened_none : (sources : List (Source R)) → AreOpened remaining m files 0 sources

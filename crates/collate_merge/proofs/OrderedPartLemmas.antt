@@ -11,7 +11,7 @@ use Rattle.collate_lists.proofs.NamesLemmas.{Rises, first_upto, upto_chain}
 use Rattle.collate_merge.specs.Merged.{StartsAbove, StartsUpto, ordered_behind, ordered_part}
 
 module _ {A : Type 0} (R : A → A → Ordering) where
-  -- behind a value that isn't above the next the ordered part goes on
+  -- after a value that isn't above the next the ordered part goes on
   pub next_part : (x : A) (more : List A) → StartsUpto R x more → ordered_behind R x more ≡ ordered_part R more
   unfolding ordered_behind
   next_part x [] up = refl
@@ -57,18 +57,18 @@ module _ {A : Type 0} (R : A → A → Ordering) where
       ]
       refl h
 
-  -- where it isn't all, what stands behind it is the first that is below the one before it
-  pub part_unordered : (xs : List A) (place : ℕ) → place ≡ length (ordered_part R xs) → place < length xs → IsFirstUnordered false R xs place
-  part_unordered [] place is h = absurd (omega arith)
-  part_unordered (x ∷ xs) place is h = record {
+  -- where it isn't all, what stands after it is the first that is below the one before it
+  pub part_unordered : (xs : List A) (index : ℕ) → index ≡ length (ordered_part R xs) → index < length xs → IsFirstUnordered false R xs index
+  part_unordered [] index is h = absurd (omega arith)
+  part_unordered (x ∷ xs) index is h = record {
     behind = omega arith;
     within = h;
     before = subst (λ (n : ℕ). AreInOrder false R (x ∷ xs) n) (sym is) (part_in_order (x ∷ xs));
     here = λ before d at.
         let n : ℕ = length (ordered_behind R x xs) in
         let low : before ≡ n = omega arith in
-        let high : place ≡ suc n = omega arith in
-        ap (λ (k : ℕ). not (is_greater (R (get_or (x ∷ xs) k d) (get_or (x ∷ xs) place d)))) low
+        let high : index ≡ suc n = omega arith in
+        ap (λ (k : ℕ). not (is_greater (R (get_or (x ∷ xs) k d) (get_or (x ∷ xs) index d)))) low
         ∙ ap (λ (k : ℕ). not (is_greater (R (get_or (x ∷ xs) n d) (get_or (x ∷ xs) k d)))) high
         ∙ ap not (stops_behind x xs d (omega arith));
   }

@@ -123,31 +123,31 @@ module _ {R : Type 0} (remaining : R → Option (List ℕ)) (m : Merge) (files :
 
     -- ---- a step
 
-    module _ (accepted : AreAccepted m.rule.records.lines) (direction : Direction) (same : direction ≡ m.rule.direction) (place : ℕ)
-        (least : IsLeast (λ (s : Source R). s.is_done) (source_order direction) sources (length sources) place) (d : Source R) where
+    module _ (accepted : AreAccepted m.rule.records.lines) (direction : Direction) (same : direction ≡ m.rule.direction) (index : ℕ)
+        (least : IsLeast (λ (s : Source R). s.is_done) (source_order direction) sources (length sources) index) (d : Source R) where
       abbrev here : Source R
-      here = get_or sources place d
+      here = get_or sources index d
 
       abbrev x : List ℕ
       x = here.line.items
 
-      pub place_within : place < length files
-      place_within = omega (arith, least.within, p.left.long)
+      pub index_within : index < length files
+      index_within = omega (arith, least.within, p.left.long)
 
-      -- the line of the least source, and those behind it
-      pub least_line : (more : List (List ℕ)) × (get_or p.lefts place [] ≡ x ∷ more) × HasLine remaining m (lines_at place) more here
-      least_line = line_left (lines_at place) (get_or p.lefts place []) here (least.here d) (p.left.each place d place_within)
+      -- the line of the least source, and those after it
+      pub least_line : (more : List (List ℕ)) × (get_or p.lefts index [] ≡ x ∷ more) × HasLine remaining m (lines_at index) more here
+      least_line = line_left (lines_at index) (get_or p.lefts index []) here (least.here d) (p.left.each index d index_within)
 
-      before_above : (k : ℕ) (b : Bool) → (get_or sources k d).is_done ≡ b → k < place → StartsAbove (order_in m) x (get_or p.lefts k [])
+      before_above : (k : ℕ) (b : Bool) → (get_or sources k d).is_done ≡ b → k < index → StartsAbove (order_in m) x (get_or p.lefts k [])
       before_above k true done l =
-          subst (StartsAbove (order_in m) x) (sym (done_none (lines_at k) (get_or p.lefts k []) (get_or sources k d) done (p.left.each k d (omega (arith, place_within))))) tt
+          subst (StartsAbove (order_in m) x) (sym (done_none (lines_at k) (get_or p.lefts k []) (get_or sources k d) done (p.left.each k d (omega (arith, index_within))))) tt
       before_above k false left l =
-          let other = line_left (lines_at k) (get_or p.lefts k []) (get_or sources k d) left (p.left.each k d (omega (arith, place_within))) in
+          let other = line_left (lines_at k) (get_or p.lefts k []) (get_or sources k d) left (p.left.each k d (omega (arith, index_within))) in
           subst (StartsAbove (order_in m) x) (sym other.1)
           (ap is_greater (sym (keys_tell m accepted direction (get_or sources k d).line.items x (get_or sources k d).key.items here.key.items same other.2.key_is least_line.2.key_is))
           ∙ least.before k d l left)
 
-      behind_upto : (k : ℕ) (b : Bool) → (get_or sources k d).is_done ≡ b → place < k → k < length files → StartsUpto (order_in m) x (get_or p.lefts k [])
+      behind_upto : (k : ℕ) (b : Bool) → (get_or sources k d).is_done ≡ b → index < k → k < length files → StartsUpto (order_in m) x (get_or p.lefts k [])
       behind_upto k true done l within =
           subst (StartsUpto (order_in m) x) (sym (done_none (lines_at k) (get_or p.lefts k []) (get_or sources k d) done (p.left.each k d within))) tt
       behind_upto k false left l within =
@@ -156,53 +156,53 @@ module _ {R : Type 0} (remaining : R → Option (List ℕ)) (m : Merge) (files :
           (ap is_greater (sym (keys_tell m accepted direction x (get_or sources k d).line.items here.key.items (get_or sources k d).key.items same least_line.2.key_is other.2.key_is))
           ∙ least.behind k d (omega arith) (omega (arith, p.left.long)) left)
 
-      above : All (StartsAbove (order_in m) x) (take place p.lefts)
+      above : All (StartsAbove (order_in m) x) (take index p.lefts)
       above k e l =
-          let low : k < place = omega (arith, length-take-le place p.lefts (omega (arith, place_within, p.merging.long, parts_long))) in
-          let within : k < length p.lefts = omega (arith, low, place_within, p.merging.long, parts_long) in
-          subst (StartsAbove (order_in m) x) (sym (get_or-take place p.lefts k e low ∙ get_or_default p.lefts k e [] within)) (before_above k (get_or sources k d).is_done refl low)
+          let low : k < index = omega (arith, length-take-le index p.lefts (omega (arith, index_within, p.merging.long, parts_long))) in
+          let within : k < length p.lefts = omega (arith, low, index_within, p.merging.long, parts_long) in
+          subst (StartsAbove (order_in m) x) (sym (get_or-take index p.lefts k e low ∙ get_or_default p.lefts k e [] within)) (before_above k (get_or sources k d).is_done refl low)
 
-      upto : All (StartsUpto (order_in m) x) (drop (suc place) p.lefts)
+      upto : All (StartsUpto (order_in m) x) (drop (suc index) p.lefts)
       upto k e l =
-          let long : length (drop (suc place) p.lefts) ≡ length p.lefts - suc place = length-drop (suc place) p.lefts in
-          let within : suc place + k < length p.lefts = omega (arith, long) in
-          subst (StartsUpto (order_in m) x) (sym (get_or-drop (suc place) p.lefts k e ∙ get_or_default p.lefts (suc place + k) e [] within))
-          (behind_upto (suc place + k) (get_or sources (suc place + k) d).is_done refl (omega arith) (omega (arith, p.merging.long, parts_long)))
+          let long : length (drop (suc index) p.lefts) ≡ length p.lefts - suc index = length-drop (suc index) p.lefts in
+          let within : suc index + k < length p.lefts = omega (arith, long) in
+          subst (StartsUpto (order_in m) x) (sym (get_or-drop (suc index) p.lefts k e ∙ get_or_default p.lefts (suc index + k) e [] within))
+          (behind_upto (suc index + k) (get_or sources (suc index + k) d).is_done refl (omega arith) (omega (arith, p.merging.long, parts_long)))
 
-      place_in_parts : place < length parts
-      place_in_parts = omega (arith, place_within, parts_long)
+      index_in_parts : index < length parts
+      index_in_parts = omega (arith, index_within, parts_long)
 
       -- ---- it went on
 
       module _ (s : Source R) (after : Output) (now : Option (List ℕ)) where
-        pub progress_more : (u : Unit {0}) → Goes remaining m (lines_at place) x least_line.0 p.last place (Ok u) s after new now → Progress remaining m files (set sources place s) after old now
+        pub progress_more : (u : Unit {0}) → Goes remaining m (lines_at index) x least_line.0 p.last index (Ok u) s after new now → Progress remaining m files (set sources index s) after old now
         progress_more u goes =
             let more = least_line.0 in
             let text = text_of m.separator (written_of m.unique (order_in m) p.last x) in
             let went : Result (Unit {0}) MergeError = Ok u in
-            let within : place < length sources = omega (arith, least.within) in
+            let within : index < length sources = omega (arith, least.within) in
             record {
-              lefts = set p.lefts place more;
+              lefts = set p.lefts index more;
               last = last_behind m.unique (order_in m) p.last x;
               written = p.written ++ written_of m.unique (order_in m) p.last x;
               left = record {
-                long = length-set sources place s ∙ p.left.long;
+                long = length-set sources index s ∙ p.left.long;
                 each = λ k e l.
                     ⊎_elim
-                    (λ (at : k ≡ place).
-                    let now_left : get_or (set p.lefts place more) k [] ≡ more =
-                    ap (λ (n : ℕ). get_or (set p.lefts place more) n []) at ∙ get_or-set_same p.lefts place more [] (omega (arith, place_within, p.merging.long, parts_long)) in
-                    let now_here : get_or (set sources place s) k e ≡ s = ap (λ (n : ℕ). get_or (set sources place s) n e) at ∙ get_or-set_same sources place s e within in
-                    subst (λ (n : ℕ). HasLeft remaining m (lines_at n) (get_or (set p.lefts place more) k []) (get_or (set sources place s) k e)) (sym at)
-                    (subst (λ (ls : List (List ℕ)). HasLeft remaining m (lines_at place) ls (get_or (set sources place s) k e)) (sym now_left)
-                    (subst (HasLeft remaining m (lines_at place) more) (sym now_here) goes.left)))
+                    (λ (at : k ≡ index).
+                    let now_left : get_or (set p.lefts index more) k [] ≡ more =
+                    ap (λ (n : ℕ). get_or (set p.lefts index more) n []) at ∙ get_or-set_same p.lefts index more [] (omega (arith, index_within, p.merging.long, parts_long)) in
+                    let now_here : get_or (set sources index s) k e ≡ s = ap (λ (n : ℕ). get_or (set sources index s) n e) at ∙ get_or-set_same sources index s e within in
+                    subst (λ (n : ℕ). HasLeft remaining m (lines_at n) (get_or (set p.lefts index more) k []) (get_or (set sources index s) k e)) (sym at)
+                    (subst (λ (ls : List (List ℕ)). HasLeft remaining m (lines_at index) ls (get_or (set sources index s) k e)) (sym now_left)
+                    (subst (HasLeft remaining m (lines_at index) more) (sym now_here) goes.left)))
                     (λ other.
-                    subst (λ (ls : List (List ℕ)). HasLeft remaining m (lines_at k) ls (get_or (set sources place s) k e)) (sym (get_or-set_other p.lefts place k more [] other))
-                    (subst (HasLeft remaining m (lines_at k) (get_or p.lefts k [])) (sym (get_or-set_other sources place k s e other)) (p.left.each k e l)))
-                    (cases_eq k place);
+                    subst (λ (ls : List (List ℕ)). HasLeft remaining m (lines_at k) ls (get_or (set sources index s) k e)) (sym (get_or-set_other p.lefts index k more [] other))
+                    (subst (HasLeft remaining m (lines_at k) (get_or p.lefts k [])) (sym (get_or-set_other sources index k s e other)) (p.left.each k e l)))
+                    (cases_eq k index);
               };
               kept = goes.kept;
-              merging = went_on (order_in m) (order_total m) m.unique parts p.lefts p.last p.written p.merging place place_in_parts x more least_line.1 above upto goes.follows;
+              merging = went_on (order_in m) (order_total m) m.unique parts p.lefts p.last p.written p.merging index index_in_parts x more least_line.1 above upto goes.follows;
               sent =
                   subst (Appends old now) (sym (text_more m.separator p.written (written_of m.unique (order_in m) p.last x)))
                   (Appends-then old new now (text_of m.separator p.written) text p.sent (sent-all went u new now text refl goes.sends));
@@ -210,23 +210,23 @@ module _ {R : Type 0} (remaining : R → Option (List ℕ)) (m : Merge) (files :
 
         -- ---- it was cut off
 
-        fault_true : (fault : MergeError) → IsFaultAt m (lines_at place) x least_line.0 place fault → IsTrueOf m files fault
+        fault_true : (fault : MergeError) → IsFaultAt m (lines_at index) x least_line.0 index fault → IsTrueOf m files fault
         fault_true (Unordered reader line) h =
-            let meant : place ≡ reader = sym h.0 in (
-              omega (arith, place_within, h.0),
+            let meant : index ≡ reader = sym h.0 in (
+              omega (arith, index_within, h.0),
               subst (λ (n : ℕ). IsFirstUnordered false (order_in m) (lines_in m.separator (get_or files n [])) (line - 1)) meant
-                  (subst (λ (part : List (List ℕ)). IsFirstUnordered false (order_in m) part (line - 1)) (part_at m files place [] place_within)
-                  (below_passed (order_in m) (get_or parts place []) (get_or p.lefts place []) least_line.0 h.2 x h.1 line (p.merging.each place place_in_parts) least_line.1 h.3 h.4
-                  (h.5 ∙ ap (λ (part : List (List ℕ)). length part + 1) (sym (part_at m files place [] place_within))))),
+                  (subst (λ (part : List (List ℕ)). IsFirstUnordered false (order_in m) part (line - 1)) (part_at m files index [] index_within)
+                  (below_passed (order_in m) (get_or parts index []) (get_or p.lefts index []) least_line.0 h.2 x h.1 line (p.merging.each index index_in_parts) least_line.1 h.3 h.4
+                  (h.5 ∙ ap (λ (part : List (List ℕ)). length part + 1) (sym (part_at m files index [] index_within))))),
             )
-        fault_true (Read reader error) h = omega (arith, place_within, h)
+        fault_true (Read reader error) h = omega (arith, index_within, h)
         fault_true (Write error) h = tt
         fault_true Memory h = tt
         fault_true TooManyLines h = tt
 
-        pub progress_cut : (fault : MergeError) → Goes remaining m (lines_at place) x least_line.0 p.last place (Err fault) s after new now → Merges m files (Err fault) old now
+        pub progress_cut : (fault : MergeError) → Goes remaining m (lines_at index) x least_line.0 p.last index (Err fault) s after new now → Merges m files (Err fault) old now
         progress_cut fault goes =
-            let next = next_written (order_in m) (order_total m) m.unique parts p.lefts p.last p.written p.merging place place_in_parts x least_line.0 least_line.1 above upto in
+            let next = next_written (order_in m) (order_total m) m.unique parts p.lefts p.last p.written p.merging index index_in_parts x least_line.0 least_line.1 above upto in
             let piece = written_of m.unique (order_in m) p.last x in
             let others = text_of m.separator next.0 in
             record {

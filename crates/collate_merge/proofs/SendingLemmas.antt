@@ -26,7 +26,7 @@ sent-all {T} {E} result t a b bytes is h =
     let sends : Sends {E = E} (Ok t) a b bytes = subst (λ (r : Result T E). Sends r a b bytes) is h in
     subst (Appends a b) (sym (sends.bytes_are ∙ ap (λ (xs : List ℕ). sends.sent ++ xs) sends.whole ∙ append-nil sends.sent)) sends.appends
 
--- bytes behind others that were sent
+-- bytes after others that were sent
 pub sends-then : {T E : Type 0} (result : Result T E) (a b c : Option (List ℕ)) (xs ys : List ℕ) → Appends a b xs → Sends result b c ys → Sends result a c (xs ++ ys)
 sends-then result a b c xs ys first second = record {
   sent = xs ++ second.sent;
@@ -36,7 +36,7 @@ sends-then result a b c xs ys first second = record {
   whole = second.whole;
 }
 
--- bytes behind others that weren't sent whole
+-- bytes after others that weren't sent whole
 pub sends-cut : {T E S F : Type 0} (result : Result T E) (fault : F) (a b : Option (List ℕ)) (xs ys : List ℕ) → Sends result a b xs → Sends {T = S} (Err fault) a b (xs ++ ys)
 sends-cut result fault a b xs ys first = record {
   sent = first.sent;

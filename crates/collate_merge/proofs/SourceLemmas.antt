@@ -22,7 +22,7 @@ pub some_at : (known : Option (List ℕ)) (bytes : List ℕ) (P : List ℕ → T
 some_at known bytes P is h = subst (λ (o : Option (List ℕ)). IfSome o P) is h
 
 module _ {R : Type 0} (remaining : R → Option (List ℕ)) (m : Merge) (all : ℕ) where
-  -- what reading did to a source behind which these bytes were left
+  -- what reading did to a source after which these bytes were left
   pub line_read : (rest : List ℕ) (s : Source R) → IsBehind remaining m all rest s → (more : Bool) (line : List ℕ) (left : Option (List ℕ))
       → IfSome (remaining (reader_inside s.lines)) (λ bytes. ReadsLine (separator_of s.lines) bytes more line left) → ReadsLine m.separator rest more line left
   line_read rest s behind more line left told =
@@ -87,8 +87,8 @@ module _ {R : Type 0} (remaining : R → Option (List ℕ)) (m : Merge) (all : �
       pub follows_line : (b : Bool) → b ≡ is_greater (turned direction byte_order previous key) → b ≡ false → StartsUpto (order_in m) s.line.items more
       follows_line b is none = subst (StartsUpto (order_in m) s.line.items) (sym (next_line here).1) (sym (told b is) ∙ none)
 
-      pub below_line : (place : ℕ) (b : Bool) → b ≡ is_greater (turned direction byte_order previous key) → b ≡ true → IsFaultAt m all s.line.items more place (Unordered place t.count)
-      below_line place b is some =
+      pub below_line : (index : ℕ) (b : Bool) → b ≡ is_greater (turned direction byte_order previous key) → b ≡ true → IsFaultAt m all s.line.items more index (Unordered index t.count)
+      below_line index b is some =
           let next = next_line here in
           let long : length more ≡ suc (length next.0) = ap length next.1 in
           let counted : t.count + length next.0 ≡ all = ap (λ (ls : List (List ℕ)). t.count + length ls) next.2.more_is ∙ next.2.behind.counted in

@@ -21,10 +21,10 @@ pub key_of_line : (m : Merge) (x line key kept : List ℕ) → line ≡ x → ke
 key_of_line m x line key kept line_is key_is of = key_is ∙ of ∙ sym (ap (key_in m) line_is)
 
 -- the least source that was found
-pub found_least : {R : Type 0} (direction : Direction) (shown sources : List (Source R)) (result : Option ℕ) (place : ℕ) → shown ≡ sources → result ≡ Some place
-    → FindsLeast (λ (s : Source R). s.is_done) (source_order direction) shown (length shown) result → IsLeast (λ (s : Source R). s.is_done) (source_order direction) sources (length sources) place
-found_least {R} direction shown sources result place same is h =
-    subst (λ (ss : List (Source R)). IsLeast (λ (s : Source R). s.is_done) (source_order direction) ss (length ss) place) same
+pub found_least : {R : Type 0} (direction : Direction) (shown sources : List (Source R)) (result : Option ℕ) (index : ℕ) → shown ≡ sources → result ≡ Some index
+    → FindsLeast (λ (s : Source R). s.is_done) (source_order direction) shown (length shown) result → IsLeast (λ (s : Source R). s.is_done) (source_order direction) sources (length sources) index
+found_least {R} direction shown sources result index same is h =
+    subst (λ (ss : List (Source R)). IsLeast (λ (s : Source R). s.is_done) (source_order direction) ss (length ss) index) same
     (subst (λ (o : Option ℕ). FindsLeast (λ (s : Source R). s.is_done) (source_order direction) shown (length shown) o) is h)
 
 pub found_none : {R : Type 0} (direction : Direction) (shown sources : List (Source R)) (result : Option ℕ) → shown ≡ sources → result ≡ None
@@ -33,7 +33,7 @@ found_none {R} direction shown sources result same is h =
     subst (λ (ss : List (Source R)). FindsLeast (λ (s : Source R). s.is_done) (source_order direction) ss (length ss) None) same
     (subst (λ (o : Option ℕ). FindsLeast (λ (s : Source R). s.is_done) (source_order direction) shown (length shown) o) is h)
 
-module _ {R : Type 0} (remaining : R → Option (List ℕ)) (m : Merge) (all : ℕ) (x : List ℕ) (more : List (List ℕ)) (last : Option (List ℕ)) (place : ℕ)
+module _ {R : Type 0} (remaining : R → Option (List ℕ)) (m : Merge) (all : ℕ) (x : List ℕ) (more : List (List ℕ)) (last : Option (List ℕ)) (index : ℕ)
     (put : Result (Unit {0}) MergeError) (output : Output) (old new : Option (List ℕ)) (line : List ℕ) (line_is : line ≡ x)
     (sent : Sends put old new (text_of m.separator (written_of m.unique (order_in m) last line))) where
   sent_x : Sends put old new (text_of m.separator (written_of m.unique (order_in m) last x))
@@ -41,7 +41,7 @@ module _ {R : Type 0} (remaining : R → Option (List ℕ)) (m : Merge) (all : �
 
   -- the line was written
   pub goes_on : (u : Unit {0}) → put ≡ Ok u → OnOk put (IsOutput m (last_behind m.unique (order_in m) last line) output)
-      → (result : Result (Unit {0}) MergeError) (s : Source R) → Advances remaining m all x more place result s → Goes remaining m all x more last place result s output old new
+      → (result : Result (Unit {0}) MergeError) (s : Source R) → Advances remaining m all x more index result s → Goes remaining m all x more last index result s output old new
   goes_on u is kept result s advances = record {
     sends =
         sends-all result old new (text_of m.separator (written_of m.unique (order_in m) last x))

@@ -1,4 +1,4 @@
--- What a column holds of a line: some of its fields. Where blanks separate, a field is blanks and what stands behind them up to
+-- What a column holds of a line: some of its fields. Where blanks separate, a field is blanks and what stands after them up to
 -- the next; where a byte does, what stands between two of these, and the first and the last field are what stands outside.
 use Rattle.std.specs.Prelude.{◌==◌, ◌||◌, ℕ, zero, suc, ◌+◌, ◌-◌, Bool, List, Option, Some, None, drop, length, not, take}
 use Rattle.std.specs.List.{prefix_len}
@@ -16,12 +16,12 @@ abbrev pub field_len : Separator → List ℕ → ℕ
 field_len Blanks line = let blanks = prefix_len is_blank line in blanks + prefix_len (λ byte. not (is_blank byte)) (drop blanks line)
 field_len (Byte separator) line = prefix_len (λ byte. not (byte == separator)) line
 
--- a line behind its first field, and behind the byte that ends it
+-- a line after its first field, and after the byte that ends it
 abbrev pub behind_field : Separator → List ℕ → List ℕ
 behind_field Blanks line = drop (field_len Blanks line) line
 behind_field (Byte separator) line = drop (field_len (Byte separator) line + 1) line
 
--- a line behind its first so many fields
+-- a line after its first so many fields
 unfoldable pub behind_fields : Separator → ℕ → List ℕ → List ℕ
 behind_fields separator zero line = line
 behind_fields separator (suc n) line = behind_fields separator n (behind_field separator line)

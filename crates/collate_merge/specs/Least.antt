@@ -3,7 +3,7 @@ use Rattle.std.specs.Prelude.{◌≡◌, ℕ, ◌<◌, ◌≤◌, Bool, true, fa
 use Rattle.std.specs.declared.cmp.Ordering.{Ordering}
 use Rattle.collate_lists.specs.Names.{is_greater}
 
--- of the values before an end the one at a place isn't done, it is below each before it, and above none behind it, but for those that are done
+-- of the values before an end the one at an index isn't done, it is below each before it, and above none after it, but for those that are done
 pub record IsLeast {X : Type 0} (is_done : X → Bool) (order : X → X → Ordering) (xs : List X) (end least : ℕ) : Type 0 where
   pub within : least < end
   pub here : (d : X) → is_done (slice_index_or xs least d) ≡ false

@@ -4,7 +4,7 @@ use Rattle.std.specs.declared.cmp.Ordering.{Ordering}
 use Rattle.collate_keyed_lines.specs.KeyedLines.{first_of_equals}
 use Rattle.collate_lists.specs.Names.{in_order, is_greater}
 
--- of values behind another those before the first that is below the one before it
+-- of values after another those before the first that is below the one before it
 unfoldable pub ordered_behind : {A : Type 0} → (A → A → Ordering) → A → List A → List A
 ordered_behind order x [] = []
 ordered_behind order x (y ∷ later) = cond (is_greater (order x y)) [] (y ∷ ordered_behind order y later)

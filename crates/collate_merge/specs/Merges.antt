@@ -30,7 +30,7 @@ line_by part line = record { line = line; text = part_of part line }
 abbrev pub order_in : Merge → List ℕ → List ℕ → Ordering
 order_in m a b = line_order m.rule (line_by m.part a) (line_by m.part b)
 
--- lines, what ends a line behind each
+-- lines, what ends a line after each
 abbrev pub text_of : ℕ → List (List ℕ) → List ℕ
 text_of separator lines = flat_map (λ line. line ++ separator ∷ []) lines
 

@@ -43,27 +43,27 @@ pub record HasLine {R : Type 0} (remaining : R → Option (List ℕ)) (m : Merge
 abbrev pub HasLeft : {R : Type 0} → (R → Option (List ℕ)) → Merge → ℕ → List (List ℕ) → Source R → Type 0
 HasLeft remaining m all left s = MatchBool s.is_done (left ≡ []) ((more : List (List ℕ)) × (left ≡ s.line.items ∷ more) × HasLine remaining m all more s)
 
--- a fault of reading a line at the source of a place
+-- a fault of reading a line at the source of an index
 abbrev pub IsOfReading : ℕ → MergeError → Type 0
-IsOfReading place (Read reader error) = reader ≡ place
-IsOfReading place (Unordered reader line) = ⊥
-IsOfReading place (Write error) = ⊥
-IsOfReading place _ = ⊤
+IsOfReading index (Read reader error) = reader ≡ index
+IsOfReading index (Unordered reader line) = ⊥
+IsOfReading index (Write error) = ⊥
+IsOfReading index _ = ⊤
 
--- A fault at the source of a place, behind x, where these lines are left: if it is that of a line that is below the one before
+-- A fault at the source of an index, after x, where these lines are left: if it is that of a line that is below the one before
 -- it, the first of them is.
 abbrev pub IsFaultAt : Merge → ℕ → List ℕ → List (List ℕ) → ℕ → MergeError → Type 0
-IsFaultAt m all x more place (Unordered reader line) =
-    (reader ≡ place) × (y : List ℕ) × (later : List (List ℕ)) × (more ≡ y ∷ later) × (is_greater (order_in m x y) ≡ true) × (line + length more ≡ all + 1)
-IsFaultAt m all x more place (Read reader error) = reader ≡ place
-IsFaultAt m all x more place _ = ⊤
+IsFaultAt m all x more index (Unordered reader line) =
+    (reader ≡ index) × (y : List ℕ) × (later : List (List ℕ)) × (more ≡ y ∷ later) × (is_greater (order_in m x y) ≡ true) × (line + length more ≡ all + 1)
+IsFaultAt m all x more index (Read reader error) = reader ≡ index
+IsFaultAt m all x more index _ = ⊤
 
 -- what going on from x to the next line did
-pub record Advances {R : Type 0} (remaining : R → Option (List ℕ)) (m : Merge) (all : ℕ) (x : List ℕ) (more : List (List ℕ)) (place : ℕ)
+pub record Advances {R : Type 0} (remaining : R → Option (List ℕ)) (m : Merge) (all : ℕ) (x : List ℕ) (more : List (List ℕ)) (index : ℕ)
     (result : Result (Unit {0}) MergeError) (s : Source R) : Type 0 where
   pub follows : OnOk result (StartsUpto (order_in m) x more)
   pub left : OnOk result (HasLeft remaining m all more s)
-  pub fault : IfErr result (IsFaultAt m all x more place)
+  pub fault : IfErr result (IsFaultAt m all x more index)
 
 -- what was written last, where that matters
 abbrev pub KeepsLast : Merge → Option (List ℕ) → Output → Type 0
@@ -78,13 +78,13 @@ pub record IsOutput (m : Merge) (last : Option (List ℕ)) (output : Output) : T
   pub kept : KeepsLast m last output
 
 -- what writing x, the first line of a source, and going on to the next did
-pub record Goes {R : Type 0} (remaining : R → Option (List ℕ)) (m : Merge) (all : ℕ) (x : List ℕ) (more : List (List ℕ)) (last : Option (List ℕ)) (place : ℕ)
+pub record Goes {R : Type 0} (remaining : R → Option (List ℕ)) (m : Merge) (all : ℕ) (x : List ℕ) (more : List (List ℕ)) (last : Option (List ℕ)) (index : ℕ)
     (result : Result (Unit {0}) MergeError) (s : Source R) (output : Output) (old new : Option (List ℕ)) : Type 0 where
   pub sends : Sends result old new (text_of m.separator (written_of m.unique (order_in m) last x))
   pub kept : OnOk result (IsOutput m (last_behind m.unique (order_in m) last x) output)
   pub follows : OnOk result (StartsUpto (order_in m) x more)
   pub left : OnOk result (HasLeft remaining m all more s)
-  pub fault : IfErr result (IsFaultAt m all x more place)
+  pub fault : IfErr result (IsFaultAt m all x more index)
 
 -- of each file these lines are left, that of its source first
 pub record AreLeft {R : Type 0} (remaining : R → Option (List ℕ)) (m : Merge) (files : List (List ℕ)) (lefts : List (List (List ℕ))) (sources : List (Source R)) : Type 0 where

@@ -5,7 +5,7 @@ use Rattle.std.specs.declared.cmp.Ordering.{Ordering}
 use Rattle.collate_keyed_lines.specs.KeyedLines.{is_same}
 use Rattle.collate_lists.specs.Names.{is_equal}
 
--- of a value what is written behind the last
+-- of a value what is written after the last
 abbrev pub written_of : {A : Type 0} → Bool → (A → A → Ordering) → Option A → A → List A
 written_of false order last x = x ∷ []
 written_of true order None x = x ∷ []
@@ -22,7 +22,7 @@ unfoldable pub fresh_behind : {A : Type 0} → (A → A → Ordering) → A → 
 fresh_behind order kept [] = []
 fresh_behind order kept (x ∷ later) = cond (is_equal (order x kept)) (fresh_behind order kept later) (x ∷ fresh_behind order x later)
 
--- of values what is written behind the last
+-- of values what is written after the last
 abbrev pub all_written : {A : Type 0} → Bool → (A → A → Ordering) → Option A → List A → List A
 all_written false order last xs = xs
 all_written true order None xs = dedup (is_same order) xs

@@ -18,7 +18,7 @@ pub enum Separator {
 pub enum Column {
     /// All of it.
     Line,
-    /// The fields behind the first so many: as many as `count` says, or all to the end of the line. Fields that are missing
+    /// The fields after the first so many: as many as `count` says, or all to the end of the line. Fields that are missing
     /// are empty.
     Fields {
         /// What stands between fields.
@@ -124,7 +124,7 @@ fn field_len(separator: Separator, line: &[u8]) -> usize
     }
 }
 
-/// A line behind its first field, and behind the byte that ends it.
+/// A line after its first field, and after the byte that ends it.
 fn past_field(separator: Separator, line: &[u8]) -> &[u8]
     ensures past { result.now ≡ behind_field separator line.now }
     ensures within { length result.now ≤ length line.now }
@@ -137,7 +137,7 @@ fn past_field(separator: Separator, line: &[u8]) -> &[u8]
     }
 }
 
-/// A line behind its first so many fields.
+/// A line after its first so many fields.
 #[tactic(auto, using(crate::proofs::ColumnLemmas::behind_one, crate::proofs::ColumnLemmas::behind_none, crate::proofs::ColumnLemmas::behind_zero))]
 fn past_fields(separator: Separator, count: usize, line: &[u8]) -> &[u8]
     ensures past { result.now ≡ behind_fields separator count line.now }

@@ -85,8 +85,8 @@ fn open_all<R: BufRead + Drop>(
 {
     let mut sources = Vec::new(alloc);
     for reader in readers {
-        let place = sources.len();
-        let source = match Source::open(alloc, order, part, place, reader, separator) {
+        let index = sources.len();
+        let source = match Source::open(alloc, order, part, index, reader, separator) {
             Ok(source) => source,
             Err(error) => return Err(error),
         };
@@ -111,11 +111,11 @@ fn merge_sources<R: BufRead + Drop, W: Write>(
 {
     order.keep_rules();
     'merge: for _ in 0..u64::MAX {
-        let place = match least(order.direction(), sources.as_slice()) {
-            Some(place) => place,
+        let index = match least(order.direction(), sources.as_slice()) {
+            Some(index) => index,
             None => return Ok(()),
         };
-        match step(order, part, place, &mut sources[place], output, writer) {
+        match step(order, part, index, &mut sources[index], output, writer) {
             Ok(()) => {}
             Err(error) => return Err(error),
         }
@@ -127,19 +127,19 @@ fn merge_sources<R: BufRead + Drop, W: Write>(
 fn step<R: BufRead, W: Write>(
     order: &LineOrder,
     part: LinePart,
-    place: usize,
+    index: usize,
     source: &mut Source<R>,
     output: &mut Output,
     writer: &mut W,
 ) -> Result<(), MergeError>
     ensures { (m : Merge) (all : ℕ) (more : List (List ℕ)) (last : Option (List ℕ)) → (m.rule ≡ order.now) × (m.part ≡ part)
         → HasLine R.remaining m all more source.old → IsOutput m last output.old
-        → Goes R.remaining m all source.old.line.items more last place result source.new output.new (W.contents writer.old) (W.contents writer.new) }
+        → Goes R.remaining m all source.old.line.items more last index result source.new output.new (W.contents writer.old) (W.contents writer.new) }
 {
     order.keep_rules();
     let (line, key) = source.line();
     match output.put(writer, line, key) {
-        Ok(()) => source.advance(order, part, place),
+        Ok(()) => source.advance(order, part, index),
         Err(error) => Err(error),
     }
 }

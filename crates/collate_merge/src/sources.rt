@@ -43,14 +43,14 @@ impl<R> Source<R> {
 }
 
 impl<R: BufRead> Source<R> {
-    /// Reads the first line of the reader of a place.
+    /// Reads the first line of the reader of an index.
     ///
     /// Errors: `Read`, `Memory` and `TooManyLines` of `MergeError`.
     pub fn open(
         alloc: Global,
         order: &LineOrder,
         part: LinePart,
-        place: usize,
+        index: usize,
         reader: R,
         separator: u8,
     ) -> Result<Source<R>, MergeError>
@@ -58,7 +58,7 @@ impl<R: BufRead> Source<R> {
         R: Drop,
         ensures opened { (m : Merge) (file : List ℕ) → (m.rule ≡ order.now) × (m.part ≡ part) × (m.separator ≡ separator) → R.remaining reader ≡ Some file
             → IfOk result (HasLeft R.remaining m (length (lines_in m.separator file)) (lines_in m.separator file)) }
-        ensures fault { IfErr result (IsOfReading place) }
+        ensures fault { IfErr result (IsOfReading index) }
     {
         let mut source = Source {
             lines: LineReader::new(reader, separator),
@@ -68,25 +68,25 @@ impl<R: BufRead> Source<R> {
             count: 0,
             is_done: false,
         };
-        match source.read(order, part, place) {
+        match source.read(order, part, index) {
             Ok(()) => Ok(source),
             Err(error) => Err(error),
         }
     }
 
     /// Reads the next line, and makes its key.
-    fn read(&mut self, order: &LineOrder, part: LinePart, place: usize) -> Result<(), MergeError>
+    fn read(&mut self, order: &LineOrder, part: LinePart, index: usize) -> Result<(), MergeError>
         ensures read { (m : Merge) (all : ℕ) (rest : List ℕ) → (m.rule ≡ order.now) × (m.part ≡ part) → IsBehind R.remaining m all rest self.old
             → OnOk result (HasLeft R.remaining m all (lines_in m.separator rest) self.new) }
         ensures previous { self.new.previous.items ≡ self.old.previous.items }
-        ensures fault { IfErr result (IsOfReading place) }
+        ensures fault { IfErr result (IsOfReading index) }
     {
         self.key.clear();
         let more = match self.lines.next(&mut self.line) {
             Ok(more) => more,
             Err(ReadLineError::Memory) => return Err(MergeError::Memory),
             Err(ReadLineError::Read(error)) => return Err(MergeError::Read {
-                reader: place,
+                reader: index,
                 error,
             }),
         };
@@ -111,14 +111,14 @@ impl<R: BufRead> Source<R> {
         &mut self,
         order: &LineOrder,
         part: LinePart,
-        place: usize,
+        index: usize,
     ) -> Result<(), MergeError>
         ensures { (m : Merge) (all : ℕ) (more : List (List ℕ)) → (m.rule ≡ order.now) × (m.part ≡ part) → HasLine R.remaining m all more self.old
-            → Advances R.remaining m all self.old.line.items more place result self.new }
+            → Advances R.remaining m all self.old.line.items more index result self.new }
     {
         order.keep_rules();
         mem::swap(&mut self.key, &mut self.previous);
-        match self.read(order, part, place) {
+        match self.read(order, part, index) {
             Ok(()) => {}
             Err(error) => return Err(error),
         }
@@ -127,7 +127,7 @@ impl<R: BufRead> Source<R> {
         }
         if is_above(order.direction(), &self.previous, &self.key) {
             return Err(MergeError::Unordered {
-                reader: place,
+                reader: index,
                 line: self.count,
             });
         }
@@ -140,29 +140,29 @@ pub fn least<R>(direction: Direction, sources: &[Source<R>]) -> Option<usize>
     ensures { FindsLeast (λ source. source.is_done) (source_order direction) sources.now (length sources.now) result }
 {
     let mut least = None;
-    'sources: for place in 0..sources.len() {
-        least = lesser(direction, sources, place, least);
+    'sources: for index in 0..sources.len() {
+        least = lesser(direction, sources, index, least);
     }
     least
 }
 
-/// The first of those that have the least line up to a place, if that before it is known.
+/// The first of those that have the least line up to an index, if that before it is known.
 fn lesser<R>(
     direction: Direction,
     sources: &[Source<R>],
-    place: usize,
+    index: usize,
     least: Option<usize>,
 ) -> Option<usize>
-    requires within { place < length sources.now }
-    requires before { FindsLeast (λ source. source.is_done) (source_order direction) sources.now place least }
-    ensures { FindsLeast (λ source. source.is_done) (source_order direction) sources.now (place + 1) result }
+    requires within { index < length sources.now }
+    requires before { FindsLeast (λ source. source.is_done) (source_order direction) sources.now index least }
+    ensures { FindsLeast (λ source. source.is_done) (source_order direction) sources.now (index + 1) result }
 {
-    if sources[place].is_done {
+    if sources[index].is_done {
         return least;
     }
     match least {
-        None => Some(place),
-        Some(other) if is_above(direction, &sources[other].key, &sources[place].key) => Some(place),
+        None => Some(index),
+        Some(other) if is_above(direction, &sources[other].key, &sources[index].key) => Some(index),
         Some(other) => Some(other),
     }
 }

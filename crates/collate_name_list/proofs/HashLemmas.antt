@@ -33,7 +33,7 @@ hash_full seed slots slot hash positive is =
 
 -- ---- the slots of a hash, looked at from the last one on
 
--- the next one to look at has the hash, and none behind it has the name
+-- the next one to look at has the hash, and none after it has the name
 pub record IsSearched (seed : ℕ) (slots : List (Option Stored)) (name : List ℕ) (hash : ℕ) (found : Option ℕ) : Type 0 where
   pub within : IfSome found (λ slot. slot < length slots)
   pub there : IfSome found (λ slot. get_or (hashes_in seed slots) slot 0 ≡ hash)

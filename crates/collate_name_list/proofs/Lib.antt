@@ -1,7 +1,7 @@
 pub mod NameListEntryLemmas
 pub mod KeptLemmas
 pub mod NameListItemLemmas
-pub mod PlacesLemmas
+pub mod SlotRankLemmas
 pub mod RoomLemmas
 pub mod SlotLemmas
 pub mod FrontedLemmas

@@ -6,7 +6,7 @@ use Rattle.std.proofs.lemmas.Bool.{cases_eq}
 use Rattle.std.proofs.lemmas.List.{same_lists, get_or_default, get_or-set_same, get_or-set_other, length-set}
 use Rattle.collate_name_list.specs.StoredNames.{rekeyed}
 use Rattle.collate_name_list.specs.Keys.{key_before, keys_before, slot_with_key, slots_with_keys}
-use Rattle.collate_name_list.specs.Slots.{AreFronted, HaveOwnNames, IsFull, IsKept, entry_at, entry_of, entry_or_none, hash_in, hashes_in, names_in, places_of, slots_by_key}
+use Rattle.collate_name_list.specs.Slots.{AreFronted, HaveOwnNames, IsFull, IsKept, entry_at, entry_of, entry_or_none, hash_in, hashes_in, names_in, slots_of, slots_by_key}
 use Rattle.collate_name_list.specs.declared.slots.Stored.{Stored}
 use Rattle.collate_name_list.specs.declared.name_list.NameList.TheInside.{Inside}
 use Rattle.collate_name_list.proofs.KeptLemmas.{reseeded}
@@ -176,7 +176,7 @@ on_err_from (Err e) h = h
 
 -- ---- what a list of names keeps
 
-pub kept_changed : (s t : Inside) (slots : List (Option Stored)) (keys : List (Option (List ℕ))) → IsKept s → s.slots.items ≡ slots → t.slots.items ≡ slots_with_keys slots keys → places_of t.by_key ≡ slots_by_key t.slots.items
+pub kept_changed : (s t : Inside) (slots : List (Option Stored)) (keys : List (Option (List ℕ))) → IsKept s → s.slots.items ≡ slots → t.slots.items ≡ slots_with_keys slots keys → slots_of t.by_key ≡ slots_by_key t.slots.items
     → AreFronted t.slots.items t.by_key → t.hashes.hashes ≡ s.hashes.hashes → t.hashes.seed ≡ s.hashes.seed → IsKept t
 kept_changed s t slots keys kept from changed order fronts hashes seeds = record {
   by_key = order;

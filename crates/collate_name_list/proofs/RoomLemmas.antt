@@ -10,15 +10,15 @@ use Rattle.collate_lists.proofs.NameChangeLemmas.{in_order_map, in_order_alike}
 use Rattle.collate_lists.specs.Hashes.{hash_of, is_hash}
 use Rattle.collate_lists.specs.Fronts.{IsFrontOf}
 use Rattle.collate_lists.specs.Lists.{renumbered, numbered as numbered_placed}
-use Rattle.collate_lists.specs.declared.windows.Placed.{Placed}
+use Rattle.collate_lists.specs.declared.windows.FrontedSlot.{FrontedSlot}
 use Rattle.collate_name_list.specs.StoredNames.{StoredName, key_order}
-use Rattle.collate_name_list.specs.Slots.{AreFronted, IsFull, places_of, entry_of, entry_or_none, entry_at, full_slots, entries, names_in, hashes_in, slots_by_key, HaveOwnNames, IsKept}
+use Rattle.collate_name_list.specs.Slots.{AreFronted, IsFull, slots_of, entry_of, entry_or_none, entry_at, full_slots, entries, names_in, hashes_in, slots_by_key, HaveOwnNames, IsKept}
 use Rattle.collate_name_list.specs.Room.{numbers_from}
 use Rattle.collate_name_list.specs.declared.slots.Stored.{Stored}
 use Rattle.collate_name_list.specs.declared.name_list.NameList.TheInside.{Inside}
 use Rattle.collate_name_list.proofs.SlotLemmas.{IsSlot, contains_full, slot_from_contains}
-use Rattle.collate_name_list.proofs.PlacesLemmas.{slots_by, all_slots, all_full}
-use Rattle.collate_name_list.proofs.FrontedLemmas.{all_places}
+use Rattle.collate_name_list.proofs.SlotRankLemmas.{slots_by, all_slots, all_full}
+use Rattle.collate_name_list.proofs.FrontedLemmas.{all_fronted}
 use Rattle.collate_name_list.proofs.KeptLemmas.{reseeded}
 
 -- ---- maps
@@ -118,22 +118,22 @@ module _ (slots : List (Option Stored)) where
       sym from_a.2 ∙ ap (number_of slots) one ∙ from_b.2
 
 -- each place has a number
-pub numbers_within : (S : StoredName → StoredName → Ordering) (slots : List (Option Stored)) (ps : List Placed) (numbers : List ℕ) → places_of ps ≡ slots_by S slots → numbers ≡ numbers_from 0 slots → All (λ p. p.place < length numbers) ps
+pub numbers_within : (S : StoredName → StoredName → Ordering) (slots : List (Option Stored)) (ps : List FrontedSlot) (numbers : List ℕ) → slots_of ps ≡ slots_by S slots → numbers ≡ numbers_from 0 slots → All (λ p. p.slot < length numbers) ps
 numbers_within S slots ps numbers e n =
     let long : length numbers ≡ length slots = ap length n ∙ length_numbers 0 slots in
-    all_places (λ m. m < length numbers) ps
+    all_fronted (λ m. m < length numbers) ps
     (subst (All (λ m. m < length numbers)) (sym e)
     (All-weaker (IsSlot slots) (λ m. m < length numbers) (λ m h. omega (arith, h.within, long)) (slots_by S slots) (all_slots S slots)))
 
--- places with new numbers
-places_renumbered : (numbers : List ℕ) (ps : List Placed) → places_of (renumbered numbers ps) ≡ map (λ m. get_or numbers m 0) (places_of ps)
-places_renumbered numbers ps = map_map (λ (p : Placed). p.place) (numbered_placed numbers) ps ∙ sym (map_map (λ m. get_or numbers m 0) (λ (p : Placed). p.place) ps)
+-- slots with new numbers
+slots_renumbered : (numbers : List ℕ) (ps : List FrontedSlot) → slots_of (renumbered numbers ps) ≡ map (λ m. get_or numbers m 0) (slots_of ps)
+slots_renumbered numbers ps = map_map (λ (p : FrontedSlot). p.slot) (numbered_placed numbers) ps ∙ sym (map_map (λ m. get_or numbers m 0) (λ (p : FrontedSlot). p.slot) ps)
 
-fronts_dense : (slots : List (Option Stored)) (ps : List Placed) → places_of ps ≡ slots_by_key slots → AreFronted slots ps → AreFronted (dense slots) (renumbered (numbers_from 0 slots) ps)
+fronts_dense : (slots : List (Option Stored)) (ps : List FrontedSlot) → slots_of ps ≡ slots_by_key slots → AreFronted slots ps → AreFronted (dense slots) (renumbered (numbers_from 0 slots) ps)
 fronts_dense slots ps e fronts =
-    let full : All (λ p. IsFull slots p.place) ps = all_places (IsFull slots) ps (subst (All (IsFull slots)) (sym e) (all_full key_order slots)) in
-    All-map (λ p. IsFrontOf p.front (entry_at (dense slots) p.place).key) (numbered_placed (numbers_from 0 slots)) ps
-    (λ i d l. let p : Placed = get_or ps i d in subst (λ (n : StoredName). IsFrontOf p.front n.key) (sym (entry_stays slots p.place (contains_full slots p.place (full i d l)))) (fronts i d l))
+    let full : All (λ p. IsFull slots p.slot) ps = all_fronted (IsFull slots) ps (subst (All (IsFull slots)) (sym e) (all_full key_order slots)) in
+    All-map (λ p. IsFrontOf p.front (entry_at (dense slots) p.slot).key) (numbered_placed (numbers_from 0 slots)) ps
+    (λ i d l. let p : FrontedSlot = get_or ps i d in subst (λ (n : StoredName). IsFrontOf p.front n.key) (sym (entry_stays slots p.slot (contains_full slots p.slot (full i d l)))) (fronts i d l))
 
 hash_above : (seed : ℕ) (bytes : List ℕ) → is_hash (hash_of seed bytes) ≡ true
 hash_above seed bytes = lt-ltb 0 (hash_of seed bytes) (omega arith)
@@ -153,7 +153,7 @@ kept_dense s t numbers kept n e k h seeds =
     let keys : t.by_key ≡ renumbered (numbers_from 0 slots) s.by_key = k ∙ ap (λ ns. renumbered ns s.by_key) n in
     record {
       by_key =
-          ap places_of keys ∙ places_renumbered (numbers_from 0 slots) s.by_key ∙ ap (map (number_of slots)) kept.by_key
+          ap slots_of keys ∙ slots_renumbered (numbers_from 0 slots) s.by_key ∙ ap (map (number_of slots)) kept.by_key
           ∙ orders_dense slots key_order ∙ sym (ap slots_by_key e);
       fronts =
           subst (λ (ss : List (Option Stored)). AreFronted ss t.by_key) (sym e)

@@ -10,20 +10,20 @@ use Rattle.std.proofs.lemmas.List.{drop_all, drop_more, take_more}
 use Rattle.std.proofs.lemmas.List.Elements.{All-append, All-cons, All-contains, All-filter, All-head, All-nil, All-tail, All-weaker, filter_passes}
 use Rattle.std.proofs.lemmas.List.Sorted.{All-permutation}
 use Rattle.collate_lists.specs.Names.{in_order, is_greater, placed_before}
-use Rattle.collate_lists.specs.Search.{IsPlaceOf, stands_before}
+use Rattle.collate_lists.specs.Search.{IsRankOf, stands_before}
 use Rattle.collate_lists.proofs.NamesLemmas.{after_before, in_order_is_permutation, in_order_more, placed_after, turned}
 use Rattle.collate_lists.proofs.NameChangeLemmas.{in_order_alike, in_order_filter, in_order_tied}
-use Rattle.collate_lists.proofs.NamePlaceLemmas.{in_order_append}
+use Rattle.collate_lists.proofs.NameRankLemmas.{in_order_append}
 use Rattle.collate_lists.proofs.NameSearchLemmas.{in_order_parted}
 use Rattle.collate_lists.specs.Fronts.{IsFrontOf}
-use Rattle.collate_lists.specs.declared.windows.Placed.{Placed}
+use Rattle.collate_lists.specs.declared.windows.FrontedSlot.{FrontedSlot}
 use Rattle.collate_lists.proofs.Rows.{All-insert}
 use Rattle.collate_name_list.specs.StoredNames.{StoredName, key_order}
 use Rattle.collate_name_list.specs.Keys.{has_kept, is_at_kept, key_and_slot, settled, settled_by_key, slot_with_key, slots_with_keys}
-use Rattle.collate_name_list.specs.Slots.{AreFronted, IsFull, entry_at, entry_or_none, full_slots, places_of, slots_by_key}
+use Rattle.collate_name_list.specs.Slots.{AreFronted, IsFull, entry_at, entry_or_none, full_slots, slots_of, slots_by_key}
 use Rattle.collate_name_list.specs.declared.slots.Stored.{Stored}
 use Rattle.collate_name_list.proofs.SlotLemmas.{IsSlot, full_are_slots, full_less, full_push, full_rises}
-use Rattle.collate_name_list.proofs.PlacesLemmas.{key_total, then_last}
+use Rattle.collate_name_list.proofs.SlotRankLemmas.{key_total, then_last}
 use Rattle.collate_name_list.proofs.RekeyLemmas.{changed_at}
 
 -- ---- an element that arrived between others
@@ -52,7 +52,7 @@ module _ {A : Type 0} (T : A → A → Ordering) (o : IsTotalOrder T) where
   in_order_between x (a ∷ front) back h = ap (placed_before T a) (in_order_between x front back h) ∙ after_before T o a x (in_order T (front ++ back))
 
   -- an element that equals none that arrived later is put at its place among the others
-  pub in_order_put : (x : A) (front back : List A) (at : ℕ) → All (λ y. T x y ≢ Equal) back → IsPlaceOf (λ y. T y x) true (in_order T (front ++ back)) at
+  pub in_order_put : (x : A) (front back : List A) (at : ℕ) → All (λ y. T x y ≢ Equal) back → IsRankOf (λ y. T y x) true (in_order T (front ++ back)) at
       → in_order T (front ++ x ∷ back) ≡ insert (in_order T (front ++ back)) at x
   in_order_put x front back at h place = in_order_between x front back h ∙ sym (in_order_more T o (front ++ back) x) ∙ in_order_append T o (front ++ back) x at place
 
@@ -161,16 +161,16 @@ module _ (slots : List (Option Stored)) (keys : List (Option (List ℕ))) where
         (λ y l e. let same : place ≡ y = itself_alone slots place y e in absurd (omega arith)) (full_slots (place + 1) rest) above)
 
     pub settled_put : (s : Stored) (at : ℕ) → get_or slots place None ≡ Some s → has_kept keys place ≡ false
-        → IsPlaceOf (λ m. ordering_then (slice_cmp nat_cmp (entry_at slots m).key s.key) (nat_cmp m place)) true (settled_by_key slots keys place) at
+        → IsRankOf (λ m. ordering_then (slice_cmp nat_cmp (entry_at slots m).key s.key) (nat_cmp m place)) true (settled_by_key slots keys place) at
         → settled_by_key slots keys (place + 1) ≡ insert (settled_by_key slots keys place) at place
     settled_put s at is other found =
         let T : ℕ → ℕ → Ordering = key_and_slot slots in
         let out : settled slots keys place ≡ before ++ later = left_out s is other in
         let key : s.key ≡ (entry_at slots place).key = sym (ap (λ (o : Option Stored). (entry_or_none o).key) is) in
-        let by_entry : IsPlaceOf (λ m. T m place) true (settled_by_key slots keys place) at =
-        subst (λ x. IsPlaceOf (λ m. ordering_then (slice_cmp nat_cmp (entry_at slots m).key x) (nat_cmp m place)) true (settled_by_key slots keys place) at) key found in
+        let by_entry : IsRankOf (λ m. T m place) true (settled_by_key slots keys place) at =
+        subst (λ x. IsRankOf (λ m. ordering_then (slice_cmp nat_cmp (entry_at slots m).key x) (nat_cmp m place)) true (settled_by_key slots keys place) at) key found in
         ap (in_order T) (more s is)
-        ∙ in_order_put T (slots_total slots) place before later at (apart s is) (subst (λ ms. IsPlaceOf (λ m. T m place) true (in_order T ms) at) out by_entry)
+        ∙ in_order_put T (slots_total slots) place before later at (apart s is) (subst (λ ms. IsRankOf (λ m. T m place) true (in_order T ms) at) out by_entry)
         ∙ sym (ap (λ ms. insert (in_order T ms) at place) out)
 
     pub settled_none_by_key : get_or slots place None ≡ None → settled_by_key slots keys (place + 1) ≡ settled_by_key slots keys place
@@ -219,32 +219,32 @@ module _ (slots : List (Option Stored)) (keys : List (Option (List ℕ))) where
       ap (λ e. ordering_then (key_order e (entry_at (slots_with_keys slots keys) y)) (nat_cmp x y)) (same x hx)
       ∙ ap (λ e. ordering_then (key_order (entry_at slots x) e) (nat_cmp x y)) (same y hy))
 
-  places_kept : (ps : List Placed) → places_of (filter (is_at_kept keys) ps) ≡ filter (has_kept keys) (places_of ps)
-  places_kept [] = refl
-  places_kept (p ∷ ps) =
-      elim (has_kept keys p.place) as (λ b. places_of (cond b (p ∷ filter (is_at_kept keys) ps) (filter (is_at_kept keys) ps)) ≡ cond b (p.place ∷ filter (has_kept keys) (places_of ps)) (filter (has_kept keys) (places_of ps))) [
-        | true ↦ ap (λ ms. p.place ∷ ms) (places_kept ps)
-        | false ↦ places_kept ps
+  slots_kept : (ps : List FrontedSlot) → slots_of (filter (is_at_kept keys) ps) ≡ filter (has_kept keys) (slots_of ps)
+  slots_kept [] = refl
+  slots_kept (p ∷ ps) =
+      elim (has_kept keys p.slot) as (λ b. slots_of (cond b (p ∷ filter (is_at_kept keys) ps) (filter (is_at_kept keys) ps)) ≡ cond b (p.slot ∷ filter (has_kept keys) (slots_of ps)) (filter (has_kept keys) (slots_of ps))) [
+        | true ↦ ap (λ ms. p.slot ∷ ms) (slots_kept ps)
+        | false ↦ slots_kept ps
       ]
 
-  pub settled_first : (ps : List Placed) → places_of ps ≡ slots_by_key (slots_with_keys slots keys) → places_of (filter (is_at_kept keys) ps) ≡ settled_by_key slots keys 0
+  pub settled_first : (ps : List FrontedSlot) → slots_of ps ≡ slots_by_key (slots_with_keys slots keys) → slots_of (filter (is_at_kept keys) ps) ≡ settled_by_key slots keys 0
   settled_first ps order =
       let old : List (Option Stored) = slots_with_keys slots keys in
-      places_kept ps
+      slots_kept ps
       ∙ ap (filter (has_kept keys)) (order ∙ tied_by_slot old)
       ∙ sym (in_order_filter (key_and_slot old) (slots_total old) (has_kept keys) (full_slots 0 old))
       ∙ ap (λ ms. in_order (key_and_slot old) (filter (has_kept keys) ms)) (full_changed 0 slots keys)
       ∙ kept_alike
 
-  pub fronts_kept : (ps : List Placed) → AreFronted (slots_with_keys slots keys) ps → AreFronted slots (filter (is_at_kept keys) ps)
+  pub fronts_kept : (ps : List FrontedSlot) → AreFronted (slots_with_keys slots keys) ps → AreFronted slots (filter (is_at_kept keys) ps)
   fronts_kept ps fronts k d within =
       let old : List (Option Stored) = slots_with_keys slots keys in
       let passes = filter_passes (is_at_kept keys) ps k d within in
-      let there = All-filter (is_at_kept keys) (λ p. IsFrontOf p.front (entry_at old p.place).key) ps fronts k d within in
-      subst (λ (e : StoredName). IsFrontOf (get_or (filter (is_at_kept keys) ps) k d).front e.key) (same_entry (get_or (filter (is_at_kept keys) ps) k d).place passes) there
+      let there = All-filter (is_at_kept keys) (λ p. IsFrontOf p.front (entry_at old p.slot).key) ps fronts k d within in
+      subst (λ (e : StoredName). IsFrontOf (get_or (filter (is_at_kept keys) ps) k d).front e.key) (same_entry (get_or (filter (is_at_kept keys) ps) k d).slot passes) there
 
 -- one more place, with its front
-pub fronts_put : (slots : List (Option Stored)) (ps : List Placed) (at : ℕ) (p : Placed) (s : Stored) → AreFronted slots ps → get_or slots p.place None ≡ Some s → IsFrontOf p.front s.key → AreFronted slots (insert ps at p)
+pub fronts_put : (slots : List (Option Stored)) (ps : List FrontedSlot) (at : ℕ) (p : FrontedSlot) (s : Stored) → AreFronted slots ps → get_or slots p.slot None ≡ Some s → IsFrontOf p.front s.key → AreFronted slots (insert ps at p)
 fronts_put slots ps at p s fronts is front =
-    All-insert (λ q. IsFrontOf q.front (entry_at slots q.place).key) ps at p fronts
+    All-insert (λ q. IsFrontOf q.front (entry_at slots q.slot).key) ps at p fronts
     (subst (λ (x : List ℕ). IsFrontOf p.front x) (sym (ap (λ (o : Option Stored). (entry_or_none o).key) is)) front)

@@ -1,7 +1,7 @@
--- spans of places: a search begins with one, and one search finds both ends of those that are equal
+-- spans of ranks: a search begins with one, and one search finds both ends of those that are equal
 use Rattle.std.proofs.Common.{◌≡◌, ℕ, ◌≤◌, Bool, true, false, List, length, refl, arith, Ordering, Less, Equal, Greater}
 use Rattle.std.specs.List.{AllWithin}
-use Rattle.collate_lists.specs.Search.{stands_before, IsPlaceOf}
+use Rattle.collate_lists.specs.Search.{stands_before, IsRankOf}
 use Rattle.collate_lists.proofs.NameSearchLemmas.{IsNarrowed}
 use Rattle.collate_name_list.specs.Slots.{IsSpan}
 
@@ -30,7 +30,7 @@ module _ {A : Type 0} (compared : A → Ordering) (xs : List A) where
   }
 
   -- what a search for the first end leaves to the search for the second
-  pub span_past : (low high : ℕ) → IsPlaceOf compared false xs low → low ≤ high → high ≤ length xs → AllWithin (λ other. stands_before true (compared other) ≡ false) xs high (length xs) → IsSpan compared true xs low high
+  pub span_past : (low high : ℕ) → IsRankOf compared false xs low → low ≤ high → high ≤ length xs → AllWithin (λ other. stands_before true (compared other) ≡ false) xs high (length xs) → IsSpan compared true xs low high
   span_past low high place ordered bound back = record {
     ordered = ordered;
     bound = bound;

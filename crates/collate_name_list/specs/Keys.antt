@@ -3,7 +3,7 @@ use Rattle.std.specs.Prelude.{ℕ, Bool, not, List, [], ◌∷◌, ◌++◌, Opt
 use Rattle.std.specs.Ordering.{nat_cmp, on, then_cmp}
 use Rattle.std.specs.declared.cmp.Ordering.{Ordering}
 use Rattle.collate_lists.specs.Names.{in_order}
-use Rattle.collate_lists.specs.declared.windows.Placed.{Placed}
+use Rattle.collate_lists.specs.declared.windows.FrontedSlot.{FrontedSlot}
 use Rattle.collate_name_list.specs.StoredNames.{key_order}
 use Rattle.collate_name_list.specs.Slots.{entry_at, full_slots}
 use Rattle.collate_name_list.specs.declared.slots.Stored.{Stored}
@@ -34,18 +34,18 @@ keys_before (slot ∷ slots) (key ∷ keys) = key_before slot key ∷ keys_befor
 abbrev pub has_kept : List (Option (List ℕ)) → ℕ → Bool
 has_kept keys slot = not (is_some (slice_index_or keys slot None))
 
--- a place is that of such a slot
-abbrev pub is_at_kept : List (Option (List ℕ)) → Placed → Bool
-is_at_kept keys placed = has_kept keys placed.place
+-- it is such a slot
+abbrev pub is_at_kept : List (Option (List ℕ)) → FrontedSlot → Bool
+is_at_kept keys placed = has_kept keys placed.slot
 
 -- slots compare as their keys do, and those of one key as they arrived
 abbrev pub key_and_slot : List (Option Stored) → ℕ → ℕ → Ordering
 key_and_slot slots = then_cmp (on (entry_at slots) key_order) nat_cmp
 
--- the full slots but for those from a place on that haven't the keys that they had
+-- the full slots but for those from one on that haven't the keys that they had
 abbrev pub settled : List (Option Stored) → List (Option (List ℕ)) → ℕ → List ℕ
-settled slots keys place = full_slots 0 (take place slots) ++ filter (has_kept keys) (full_slots place (drop place slots))
+settled slots keys from = full_slots 0 (take from slots) ++ filter (has_kept keys) (full_slots from (drop from slots))
 
 -- the same in order
 abbrev pub settled_by_key : List (Option Stored) → List (Option (List ℕ)) → ℕ → List ℕ
-settled_by_key slots keys place = in_order (key_and_slot slots) (settled slots keys place)
+settled_by_key slots keys from = in_order (key_and_slot slots) (settled slots keys from)

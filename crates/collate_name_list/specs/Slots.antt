@@ -9,7 +9,7 @@ use Rattle.collate_lists.specs.Names.{in_order}
 use Rattle.collate_lists.specs.Search.{stands_before}
 use Rattle.collate_lists.specs.Hashes.{hash_of}
 use Rattle.collate_lists.specs.Fronts.{IsFrontOf}
-use Rattle.collate_lists.specs.declared.windows.Placed.{Placed}
+use Rattle.collate_lists.specs.declared.windows.FrontedSlot.{FrontedSlot}
 use Rattle.collate_name_list.specs.StoredNames.{StoredName, key_order}
 use Rattle.collate_name_list.specs.declared.slots.Stored.{Stored}
 use Rattle.collate_name_list.specs.declared.slots.Sought.{Sought}
@@ -78,13 +78,13 @@ HaveOwnNames slots = (a b : ℕ) → IsFull slots a → IsFull slots b → (entr
 abbrev pub names_inside : Inside → List StoredName
 names_inside s = entries s.slots.items
 
--- places without their fronts
-abbrev pub places_of : List Placed → List ℕ
-places_of placed = map (λ p. p.place) placed
+-- slots without their fronts
+abbrev pub slots_of : List FrontedSlot → List ℕ
+slots_of placed = map (λ p. p.slot) placed
 
--- each place has the front of the key of what stands there
-abbrev pub AreFronted : List (Option Stored) → List Placed → Type 0
-AreFronted slots placed = All (λ p. IsFrontOf p.front (entry_at slots p.place).key) placed
+-- each slot has the front of the key of what stands there
+abbrev pub AreFronted : List (Option Stored) → List FrontedSlot → Type 0
+AreFronted slots placed = All (λ p. IsFrontOf p.front (entry_at slots p.slot).key) placed
 
 -- the key that is looked for
 abbrev pub sought_key : Sought → List ℕ
@@ -93,12 +93,12 @@ sought_key (Slot key other) = key.now
 
 -- the order is that of the full slots, with the fronts of their keys, the hashes are those of the names, and no two slots have one name
 pub record IsKept (s : Inside) : Type 0 where
-  pub by_key : places_of s.by_key ≡ slots_by_key s.slots.items
+  pub by_key : slots_of s.by_key ≡ slots_by_key s.slots.items
   pub fronts : AreFronted s.slots.items s.by_key
   pub hashes : s.hashes.hashes ≡ hashes_in s.hashes.seed s.slots.items
   pub distinct : HaveOwnNames s.slots.items
 
--- the place that is looked for is one of these: all before them stand before it, and none behind them
+-- the rank that is looked for is one of these: all before them stand before it, and none after them
 pub record IsSpan {A : Type 0} (compared : A → Ordering) (past : Bool) (xs : List A) (low high : ℕ) : Type 0 where
   pub ordered : low ≤ high
   pub bound : high ≤ length xs

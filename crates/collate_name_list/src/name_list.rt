@@ -5,7 +5,7 @@ ghost use Rattle.std.specs.Cmp.Lexicographic.{slice_cmp};
 ghost use Rattle.std.specs.List.{Contains};
 ghost use Rattle.std.specs.Option.{option_copied};
 ghost use Rattle.std.specs.Ordering.{nat_cmp};
-ghost use Rattle.collate_lists.specs.Search.{IsPlaceOf};
+ghost use Rattle.collate_lists.specs.Search.{IsRankOf};
 ghost use Rattle.collate_name_list.specs.StoredNames.{AreDistinct, names_of, rekeyed, sorted, without};
 
 use crate::arrived::Arrived;
@@ -14,25 +14,25 @@ use crate::index_key::IndexKey;
 use crate::keys::reorder;
 use crate::room::{drop_empty, numbers_of};
 use crate::slots::{
-    Stored, key_in, place_of_key, place_of_slot, range_of_key, slot_of_name, stored_in,
+    Stored, key_in, range_of_key, rank_of_key, rank_of_slot, slot_of_name, stored_in,
 };
 use collate_lists::hash_list::HashList;
-use collate_lists::place_list::PlaceList;
-use collate_lists::windows::Placed;
+use collate_lists::slot_list::SlotList;
+use collate_lists::windows::FrontedSlot;
 use std::alloc::{AllocError, Global};
 use std::marker::Model;
 
 /// By how much half of the slots must be more than the names, before the empty ones are dropped.
 const SPARE_SLOTS: usize = 64;
 
-/// Names with their keys, no name twice. A contract sees them as they arrived; a place counts them in order of their keys,
+/// Names with their keys, no name twice. A contract sees them as they arrived; a rank counts them in order of their keys,
 /// those of one key as they arrived.
 pub struct NameList {
     alloc: Global,
     /// In order of arrival; a slot is empty once its name is removed.
     slots: Vec<Option<Stored>>,
     /// The full slots, in order of their keys.
-    by_key: PlaceList,
+    by_key: SlotList,
     /// The hash of each slot's name.
     hashes: HashList,
 }
@@ -71,7 +71,7 @@ impl NameList {
         NameList {
             alloc,
             slots: Vec::new(alloc),
-            by_key: PlaceList::new(alloc),
+            by_key: SlotList::new(alloc),
             hashes: HashList::new(alloc, seed),
         }
     }
@@ -125,7 +125,7 @@ impl NameList {
         let slots = self.slots.as_slice();
         match slot_of_name(slots, &self.hashes, self.hashes.hash_of(name), name) {
             Some(slot) => {
-                let keyed = place_of_slot(slots, &self.by_key, slot);
+                let keyed = rank_of_slot(slots, &self.by_key, slot);
                 self.by_key.remove(keyed);
                 self.hashes.take_out(slot);
                 self.slots[slot] = None;
@@ -135,25 +135,25 @@ impl NameList {
         }
     }
 
-    /// The first place of a name whose key isn't below a key, or, past equal ones, is above it. The count goes up by one for
+    /// The first rank of a name whose key isn't below a key, or, past equal ones, is above it. The count goes up by one for
     /// each comparison of keys: by as many at most as the number of names has binary digits.
-    pub fn place(&self, key: &IndexKey, past_equal: bool, count: &mut usize) -> usize
+    pub fn rank(&self, key: &IndexKey, past_equal: bool, count: &mut usize) -> usize
         ensures bound { result ≤ length (sorted self.now) }
-        ensures place { IsPlaceOf (λ e. slice_cmp nat_cmp e.key key.now) past_equal (sorted self.now) result }
+        ensures rank { IsRankOf (λ e. slice_cmp nat_cmp e.key key.now) past_equal (sorted self.now) result }
         ensures grown { count.old ≤ count.new }
         ensures few { (digits : ℕ) → length (sorted self.now) < 2 ^ digits → count.new ≤ count.old + digits }
     {
-        place_of_key(self.slots.as_slice(), &self.by_key, key, past_equal, count)
+        rank_of_key(self.slots.as_slice(), &self.by_key, key, past_equal, count)
     }
 
-    /// The places of the names with a key: from the first on, and before the second. The count goes up by one for each
+    /// The ranks of the names with a key: from the first on, and before the second. The count goes up by one for each
     /// comparison of keys: by twice as many at most as the number of names has binary digits, and, from 0 on, by one at
     /// least if there are names.
     pub fn range(&self, key: &IndexKey, count: &mut usize) -> (usize, usize)
         ensures ordered { result.0 ≤ result.1 }
         ensures bound { result.1 ≤ length (sorted self.now) }
-        ensures start { IsPlaceOf (λ e. slice_cmp nat_cmp e.key key.now) false (sorted self.now) result.0 }
-        ensures end { IsPlaceOf (λ e. slice_cmp nat_cmp e.key key.now) true (sorted self.now) result.1 }
+        ensures start { IsRankOf (λ e. slice_cmp nat_cmp e.key key.now) false (sorted self.now) result.0 }
+        ensures end { IsRankOf (λ e. slice_cmp nat_cmp e.key key.now) true (sorted self.now) result.1 }
         ensures few { (digits : ℕ) → length (sorted self.now) < 2 ^ digits → count.new ≤ count.old + 2 * digits }
         ensures some { 0 < length (sorted self.now) → 0 < count.new }
     {
@@ -172,12 +172,12 @@ impl NameList {
         }
     }
 
-    /// The name at a place, counted from 0; `None` past the last.
-    pub fn get(&self, place: usize) -> Option<&[u8]>
-        ensures { option_copied result ≡ slice_get (names_of (sorted self.now)) place }
+    /// The name at a rank, counted from 0; `None` past the last.
+    pub fn get(&self, rank: usize) -> Option<&[u8]>
+        ensures { option_copied result ≡ slice_get (names_of (sorted self.now)) rank }
     {
-        let placed = self.by_key.at(place)?;
-        let stored = stored_in(self.slots.as_slice(), placed.place)?;
+        let placed = self.by_key.at(rank)?;
+        let stored = stored_in(self.slots.as_slice(), placed.slot)?;
         Some(stored.bytes.as_slice())
     }
 
@@ -231,13 +231,13 @@ impl NameList {
         if slot_of_name(slots, &self.hashes, hash, name).is_some() {
             return Err(AddError::Duplicate);
         }
-        let keyed = place_of_key(slots, &self.by_key, &key, true, count);
+        let keyed = rank_of_key(slots, &self.by_key, &key, true, count);
         let bytes = Vec::from_slice(self.alloc, name)?;
         self.slots.reserve(1)?;
         self.hashes.reserve()?;
-        let place = self.slots.len();
+        let slot = self.slots.len();
         let front = key.front();
-        self.by_key.insert(keyed, Placed { front, place })?;
+        self.by_key.insert(keyed, FrontedSlot { front, slot })?;
         self.hashes.push(hash);
         self.slots.push_reserved(Some(Stored { bytes, key }));
         Ok(())

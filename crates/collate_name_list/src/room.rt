@@ -19,7 +19,7 @@ pub fn numbers_of(alloc: Global, slots: &[Option<Stored>]) -> Result<Vec<usize>,
     Ok(numbers)
 }
 
-/// The number of the slot behind one.
+/// The number of the slot after one.
 fn next_number(number: usize, slot: &Option<Stored>) -> usize
     requires { number < usize.MAX }
     ensures { result ≡ (if is_some slot.now then number + 1 else number) }

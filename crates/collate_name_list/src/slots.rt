@@ -6,18 +6,18 @@ ghost use Rattle.std.specs.List.{All, Contains};
 ghost use Rattle.std.specs.List.Sorted.{IsPartitionedBy};
 ghost use Rattle.std.specs.Option.{option_copied};
 ghost use Rattle.std.specs.Ordering.{nat_cmp};
-ghost use Rattle.collate_lists.specs.Search.{IsPlaceOf, stands_before};
+ghost use Rattle.collate_lists.specs.Search.{IsRankOf, stands_before};
 ghost use Rattle.collate_lists.specs.Hashes.{hash_of};
 ghost use Rattle.collate_name_list.specs.StoredNames.{names_of};
 ghost use Rattle.collate_lists.specs.Fronts.{IsFrontOf};
 ghost use Rattle.collate_lists.specs.Windows.{shows};
-ghost use Rattle.collate_name_list.specs.Slots.{AreFronted, IsFull, IsSpan, compared, entries, entry_at, hashes_in, places_of, slots_by_key, sought_key};
+ghost use Rattle.collate_name_list.specs.Slots.{AreFronted, IsFull, IsSpan, compared, entries, entry_at, hashes_in, slots_of, slots_by_key, sought_key};
 
 use crate::index_key::IndexKey;
 use collate_lists::fronts::Front;
 use collate_lists::hash_list::HashList;
-use collate_lists::place_list::PlaceList;
-use collate_lists::windows::{Placed, Window};
+use collate_lists::slot_list::SlotList;
+use collate_lists::windows::{FrontedSlot, Window};
 use std::cmp::Ordering;
 
 /// A name that is kept, with its key.
@@ -109,15 +109,15 @@ fn compare_whole(
 /// isn't read. The count goes up by one, unless it is the greatest `usize`.
 pub fn compare(
     slots: &[Option<Stored>],
-    placed: Placed,
+    placed: FrontedSlot,
     sought: &Sought<'_>,
     front: &Front,
     count: &mut usize,
 ) -> Ordering
-    requires full { IsFull slots.now placed.place }
-    requires stored { IsFrontOf placed.front (entry_at slots.now placed.place).key }
+    requires full { IsFull slots.now placed.slot }
+    requires stored { IsFrontOf placed.front (entry_at slots.now placed.slot).key }
     requires sought { IsFrontOf front.now (sought_key sought.now) }
-    ensures order { result ≡ compared slots.now sought.now placed.place }
+    ensures order { result ≡ compared slots.now sought.now placed.slot }
     ensures grown { count.old ≤ count.new }
     ensures few { count.new ≤ count.old + 1 }
     ensures some { 0 < count.new }
@@ -125,34 +125,34 @@ pub fn compare(
     // (read, so that the proof knows its range)
     let _before = *count;
     match placed.front.compare(front, count) {
-        Ordering::Equal => compare_whole(slots, placed.place, sought, count),
+        Ordering::Equal => compare_whole(slots, placed.slot, sought, count),
         ordering => ordering,
     }
 }
 
-/// The part of places in which a rank is: this one, if the rank is in it.
+/// The part of slots in which a rank is: this one, if the rank is in it.
 pub fn window_around<'a>(
-    places: &'a PlaceList,
+    ranked: &'a SlotList,
     window: Window<'a>,
     rank: usize,
     first: usize,
     last: usize,
 ) -> Window<'a>
-    requires rank { rank < length places.now }
-    requires shown { shows places.now window.start window.places.now }
-    ensures shown { shows places.now result.start result.places.now }
+    requires rank { rank < length ranked.now }
+    requires shown { shows ranked.now window.start window.slots.now }
+    ensures shown { shows ranked.now result.start result.slots.now }
     ensures from { result.start ≤ rank }
-    ensures before { rank < result.start + length result.places.now }
+    ensures before { rank < result.start + length result.slots.now }
 {
-    if window.start <= rank && rank - window.start < window.places.len() {
+    if window.start <= rank && rank - window.start < window.slots.len() {
         window
     } else {
-        places.around(rank, first, last)
+        ranked.around(rank, first, last)
     }
 }
 
-/// The place at a rank that is in a part of places, which begins at another rank.
-pub fn placed_in(part: &[Placed], start: usize, rank: usize) -> Placed
+/// The slot at a rank that is in a part of slots, which begins at another rank.
+pub fn slot_in(part: &[FrontedSlot], start: usize, rank: usize) -> FrontedSlot
     requires from { start ≤ rank }
     requires before { rank < start + length part.now }
     ensures { slice_get part.now (rank - start) ≡ Some result }
@@ -163,7 +163,7 @@ pub fn placed_in(part: &[Placed], start: usize, rank: usize) -> Placed
     }
 }
 
-/// Whether an element that compares so stands before the place that is looked for.
+/// Whether an element that compares so stands before the rank that is looked for.
 fn stands_before(ordering: Ordering, past_equal: bool) -> bool
     ensures { result ≡ stands_before past_equal ordering }
 {
@@ -174,7 +174,7 @@ fn stands_before(ordering: Ordering, past_equal: bool) -> bool
     }
 }
 
-/// What a search has still to look at: places from one on and before another, and the parts of a list in which they are.
+/// What a search has still to look at: ranks from one on and before another, and the parts of a list in which they are.
 #[derive(Clone, Copy)]
 pub struct Span {
     pub low: usize,
@@ -183,25 +183,25 @@ pub struct Span {
     pub last: usize,
 }
 
-/// The first place of a slot that isn't below what is looked for, or, past equal ones, of one above it: one of a span, all
+/// The first rank of a slot that isn't below what is looked for, or, past equal ones, of one above it: one of a span, all
 /// before which stand before it, and none from whose end on.
-fn place_within(
+fn rank_within(
     slots: &[Option<Stored>],
-    places: &PlaceList,
+    ranked: &SlotList,
     sought: &Sought<'_>,
     past_equal: bool,
     span: Span,
     count: &mut usize,
 ) -> usize
-    requires full { All (IsFull slots.now) (places_of places.now) }
-    requires fronts { AreFronted slots.now places.now }
-    requires parted { IsPartitionedBy (λ slot. stands_before past_equal (compared slots.now sought.now slot)) (places_of places.now) }
-    requires span { IsSpan (compared slots.now sought.now) past_equal (places_of places.now) span.low span.high }
-    ensures bound { result ≤ length (places_of places.now) }
+    requires full { All (IsFull slots.now) (slots_of ranked.now) }
+    requires fronts { AreFronted slots.now ranked.now }
+    requires parted { IsPartitionedBy (λ slot. stands_before past_equal (compared slots.now sought.now slot)) (slots_of ranked.now) }
+    requires span { IsSpan (compared slots.now sought.now) past_equal (slots_of ranked.now) span.low span.high }
+    ensures bound { result ≤ length (slots_of ranked.now) }
     ensures from { span.low ≤ result }
-    ensures place { IsPlaceOf (compared slots.now sought.now) past_equal (places_of places.now) result }
+    ensures rank { IsRankOf (compared slots.now sought.now) past_equal (slots_of ranked.now) result }
     ensures grown { count.old ≤ count.new }
-    ensures few { (digits : ℕ) → length (places_of places.now) < 2 ^ digits → count.new ≤ count.old + digits }
+    ensures few { (digits : ℕ) → length (slots_of ranked.now) < 2 ^ digits → count.new ≤ count.old + digits }
 {
     let front = front_sought(sought);
     let Span {
@@ -211,11 +211,11 @@ fn place_within(
         mut last,
     } = span;
     let (mut low, mut high) = (start, end);
-    let mut window = places.around(low, first, last);
+    let mut window = ranked.around(low, first, last);
     'halves: while low < high {
         let middle = low + (high - low) / 2;
-        window = window_around(places, window, middle, first, last);
-        let placed = placed_in(window.places, window.start, middle);
+        window = window_around(ranked, window, middle, first, last);
+        let placed = slot_in(window.slots, window.start, middle);
         if stands_before(compare(slots, placed, sought, &front, count), past_equal) {
             low = middle + 1;
             first = window.part;
@@ -227,65 +227,65 @@ fn place_within(
     low
 }
 
-/// All places of a list.
-fn whole(places: &PlaceList) -> Span
+/// All ranks of a list.
+fn whole(ranked: &SlotList) -> Span
     ensures low { result.low ≡ 0 }
-    ensures high { result.high ≡ length places.now }
+    ensures high { result.high ≡ length ranked.now }
 {
     Span {
         low: 0,
-        high: places.len(),
+        high: ranked.len(),
         first: 0,
         last: usize::MAX,
     }
 }
 
-/// The first place of a slot that isn't below what is looked for, or, past equal ones, of one above it.
-pub fn place_of(
+/// The first rank of a slot that isn't below what is looked for, or, past equal ones, of one above it.
+pub fn rank_of_sought(
     slots: &[Option<Stored>],
-    places: &PlaceList,
+    ranked: &SlotList,
     sought: &Sought<'_>,
     past_equal: bool,
     count: &mut usize,
 ) -> usize
-    requires full { All (IsFull slots.now) (places_of places.now) }
-    requires fronts { AreFronted slots.now places.now }
-    requires parted { IsPartitionedBy (λ slot. stands_before past_equal (compared slots.now sought.now slot)) (places_of places.now) }
-    ensures bound { result ≤ length (places_of places.now) }
-    ensures place { IsPlaceOf (compared slots.now sought.now) past_equal (places_of places.now) result }
+    requires full { All (IsFull slots.now) (slots_of ranked.now) }
+    requires fronts { AreFronted slots.now ranked.now }
+    requires parted { IsPartitionedBy (λ slot. stands_before past_equal (compared slots.now sought.now slot)) (slots_of ranked.now) }
+    ensures bound { result ≤ length (slots_of ranked.now) }
+    ensures rank { IsRankOf (compared slots.now sought.now) past_equal (slots_of ranked.now) result }
     ensures grown { count.old ≤ count.new }
-    ensures few { (digits : ℕ) → length (places_of places.now) < 2 ^ digits → count.new ≤ count.old + digits }
+    ensures few { (digits : ℕ) → length (slots_of ranked.now) < 2 ^ digits → count.new ≤ count.old + digits }
 {
-    place_within(slots, places, sought, past_equal, whole(places), count)
+    rank_within(slots, ranked, sought, past_equal, whole(ranked), count)
 }
 
-/// The first place of a slot that isn't below what is looked for, and where the first one above it is: a span that begins
+/// The first rank of a slot that isn't below what is looked for, and where the first one above it is: a span that begins
 /// with the one and has the other in it or at its end.
 fn span_of(
     slots: &[Option<Stored>],
-    places: &PlaceList,
+    ranked: &SlotList,
     sought: &Sought<'_>,
     count: &mut usize,
 ) -> Span
-    requires full { All (IsFull slots.now) (places_of places.now) }
-    requires fronts { AreFronted slots.now places.now }
-    requires parted { IsPartitionedBy (λ slot. stands_before false (compared slots.now sought.now slot)) (places_of places.now) }
-    requires parted_past { IsPartitionedBy (λ slot. stands_before true (compared slots.now sought.now slot)) (places_of places.now) }
-    ensures place { IsPlaceOf (compared slots.now sought.now) false (places_of places.now) result.low }
-    ensures span { IsSpan (compared slots.now sought.now) true (places_of places.now) result.low result.high }
+    requires full { All (IsFull slots.now) (slots_of ranked.now) }
+    requires fronts { AreFronted slots.now ranked.now }
+    requires parted { IsPartitionedBy (λ slot. stands_before false (compared slots.now sought.now slot)) (slots_of ranked.now) }
+    requires parted_past { IsPartitionedBy (λ slot. stands_before true (compared slots.now sought.now slot)) (slots_of ranked.now) }
+    ensures rank { IsRankOf (compared slots.now sought.now) false (slots_of ranked.now) result.low }
+    ensures span { IsSpan (compared slots.now sought.now) true (slots_of ranked.now) result.low result.high }
     ensures grown { count.old ≤ count.new }
-    ensures few { (digits : ℕ) → length (places_of places.now) < 2 ^ digits → count.new ≤ count.old + digits }
-    ensures some { 0 < length (places_of places.now) → 0 < count.new }
+    ensures few { (digits : ℕ) → length (slots_of ranked.now) < 2 ^ digits → count.new ≤ count.old + digits }
+    ensures some { 0 < length (slots_of ranked.now) → 0 < count.new }
 {
     let front = front_sought(sought);
-    let mut span = whole(places);
+    let mut span = whole(ranked);
     let mut high = span.high;
     let mut last = span.last;
-    let mut window = places.around(0, span.first, last);
+    let mut window = ranked.around(0, span.first, last);
     'halves: while span.low < high {
         let middle = span.low + (high - span.low) / 2;
-        window = window_around(places, window, middle, span.first, last);
-        let placed = placed_in(window.places, window.start, middle);
+        window = window_around(ranked, window, middle, span.first, last);
+        let placed = slot_in(window.slots, window.start, middle);
         match compare(slots, placed, sought, &front, count) {
             Ordering::Less => {
                 span.low = middle + 1;
@@ -306,58 +306,58 @@ fn span_of(
     span
 }
 
-/// The places in the order of keys of the slots that have a key: from the first on, and before the second.
+/// The ranks in the order of keys of the slots that have a key: from the first on, and before the second.
 pub fn range_of_key(
     slots: &[Option<Stored>],
-    by_key: &PlaceList,
+    by_key: &SlotList,
     key: &IndexKey,
     count: &mut usize,
 ) -> (usize, usize)
-    requires order { places_of by_key.now ≡ slots_by_key slots.now }
+    requires order { slots_of by_key.now ≡ slots_by_key slots.now }
     requires fronts { AreFronted slots.now by_key.now }
     ensures ordered { result.0 ≤ result.1 }
-    ensures bound { result.1 ≤ length (places_of by_key.now) }
-    ensures start { IsPlaceOf (λ slot. slice_cmp nat_cmp (entry_at slots.now slot).key key.now) false (places_of by_key.now) result.0 }
-    ensures end { IsPlaceOf (λ slot. slice_cmp nat_cmp (entry_at slots.now slot).key key.now) true (places_of by_key.now) result.1 }
-    ensures few { (digits : ℕ) → length (places_of by_key.now) < 2 ^ digits → count.new ≤ count.old + 2 * digits }
-    ensures some { 0 < length (places_of by_key.now) → 0 < count.new }
+    ensures bound { result.1 ≤ length (slots_of by_key.now) }
+    ensures start { IsRankOf (λ slot. slice_cmp nat_cmp (entry_at slots.now slot).key key.now) false (slots_of by_key.now) result.0 }
+    ensures end { IsRankOf (λ slot. slice_cmp nat_cmp (entry_at slots.now slot).key key.now) true (slots_of by_key.now) result.1 }
+    ensures few { (digits : ℕ) → length (slots_of by_key.now) < 2 ^ digits → count.new ≤ count.old + 2 * digits }
+    ensures some { 0 < length (slots_of by_key.now) → 0 < count.new }
 {
     let sought = Sought::Key(key);
     let span = span_of(slots, by_key, &sought, count);
-    let end = place_within(slots, by_key, &sought, true, span, count);
+    let end = rank_within(slots, by_key, &sought, true, span, count);
     (span.low, end)
 }
 
-/// The first place in the order of keys of a slot whose key isn't below a key, or, past equal ones, is above it.
-pub fn place_of_key(
+/// The first rank in the order of keys of a slot whose key isn't below a key, or, past equal ones, is above it.
+pub fn rank_of_key(
     slots: &[Option<Stored>],
-    by_key: &PlaceList,
+    by_key: &SlotList,
     key: &IndexKey,
     past_equal: bool,
     count: &mut usize,
 ) -> usize
-    requires order { places_of by_key.now ≡ slots_by_key slots.now }
+    requires order { slots_of by_key.now ≡ slots_by_key slots.now }
     requires fronts { AreFronted slots.now by_key.now }
-    ensures bound { result ≤ length (places_of by_key.now) }
-    ensures place { IsPlaceOf (λ slot. slice_cmp nat_cmp (entry_at slots.now slot).key key.now) past_equal (places_of by_key.now) result }
+    ensures bound { result ≤ length (slots_of by_key.now) }
+    ensures rank { IsRankOf (λ slot. slice_cmp nat_cmp (entry_at slots.now slot).key key.now) past_equal (slots_of by_key.now) result }
     ensures grown { count.old ≤ count.new }
-    ensures few { (digits : ℕ) → length (places_of by_key.now) < 2 ^ digits → count.new ≤ count.old + digits }
+    ensures few { (digits : ℕ) → length (slots_of by_key.now) < 2 ^ digits → count.new ≤ count.old + digits }
 {
-    place_of(slots, by_key, &Sought::Key(key), past_equal, count)
+    rank_of_sought(slots, by_key, &Sought::Key(key), past_equal, count)
 }
 
-/// The place of a full slot in the order of keys.
-pub fn place_of_slot(slots: &[Option<Stored>], by_key: &PlaceList, slot: usize) -> usize
-    requires order { places_of by_key.now ≡ slots_by_key slots.now }
+/// The rank of a full slot in the order of keys.
+pub fn rank_of_slot(slots: &[Option<Stored>], by_key: &SlotList, slot: usize) -> usize
+    requires order { slots_of by_key.now ≡ slots_by_key slots.now }
     requires fronts { AreFronted slots.now by_key.now }
     requires full { IsFull slots.now slot }
-    ensures { slice_get (places_of by_key.now) result ≡ Some slot }
+    ensures { slice_get (slots_of by_key.now) result ≡ Some slot }
 {
     let mut count = 0;
     match stored_in(slots, slot) {
         Some(stored) => {
             let sought = Sought::Slot(&stored.key, slot);
-            place_of(slots, by_key, &sought, false, &mut count)
+            rank_of_sought(slots, by_key, &sought, false, &mut count)
         }
         None => unreachable!(),
     }

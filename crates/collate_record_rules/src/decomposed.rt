@@ -15,7 +15,7 @@ use collate_rules::noted::Characters;
 use std::alloc::{AllocError, Global};
 
 /// The first line with which a text or a prefix isn't its own decomposed list: a character of it has a canonical mapping, or
-/// a mark stands behind one of a higher class (rule V7, docs/RECORDS.md). Lines count from 0; `None` where no line offends.
+/// a mark stands after one of a higher class (rule V7, docs/RECORDS.md). Lines count from 0; `None` where no line offends.
 ///
 /// Errors: `AllocError` where memory is refused.
 pub fn first_undecomposed(alloc: Global, records: &[Record]) -> Result<Option<usize>, AllocError>
@@ -90,18 +90,18 @@ fn has_mapped(given: &Characters<'_>, list: &[char]) -> bool
     false
 }
 
-/// Whether a mark stands directly behind one of a higher class.
+/// Whether a mark stands directly after one of a higher class.
 fn is_disordered(given: &Characters<'_>, list: &[char]) -> bool
     ensures { result ≡ is_disordered (class_of (map said given.now.lines.now)) list.now }
 {
-    let mut place = 0;
-    while place + 1 < list.len() {
-        let before = list[place];
-        let behind = list[place + 1];
+    let mut index = 0;
+    while index + 1 < list.len() {
+        let before = list[index];
+        let behind = list[index + 1];
         if are_disordered(given, before, behind) {
             return true;
         }
-        place += 1;
+        index += 1;
     }
     false
 }

@@ -14,7 +14,7 @@ use icu_collator_types::elements::Element;
 use std::alloc::{AllocError, Global};
 use std::collections::BTreeSet;
 
-/// The characters that some lines record with others behind them or before them, where no record of all lines replaces
+/// The characters that some lines record with others after them or before them, where no record of all lines replaces
 /// that.
 pub(crate) struct Further<'r, 'l> {
     pub(crate) records: &'r [Record],
@@ -35,7 +35,7 @@ impl Drop for Further<'_, '_> {
 }
 
 impl<'r, 'l> Further<'r, 'l> {
-    /// What these lines record so. Fails only when out of memory.
+    /// What these lines record so. Fails only if memory is refused.
     pub(crate) fn new(
         alloc: Global,
         recorded: &Recorded<'r>,
@@ -80,7 +80,7 @@ impl Drop for Odd<'_, '_> {
 }
 
 impl<'r, 'l> Odd<'r, 'l> {
-    /// What these lines record so. Fails only when out of memory.
+    /// What these lines record so. Fails only if memory is refused.
     pub(crate) fn new(
         alloc: Global,
         recorded: &Recorded<'r>,
@@ -105,7 +105,7 @@ impl<'r, 'l> Odd<'r, 'l> {
     }
 }
 
-/// The characters that lines record with others, and so that it counts. Fails only when out of memory.
+/// The characters that lines record with others, and so that it counts. Fails only if memory is refused.
 fn further_in(
     alloc: Global,
     recorded: &Recorded<'_>,
@@ -120,7 +120,7 @@ fn further_in(
     Ok(further)
 }
 
-/// The characters that lines record so, or alone as other than a common secondary. Fails only when out of memory.
+/// The characters that lines record so, or alone as other than a common secondary. Fails only if memory is refused.
 fn odd_in(
     alloc: Global,
     recorded: &Recorded<'_>,
@@ -135,7 +135,7 @@ fn odd_in(
     Ok(odd)
 }
 
-/// Notes the character that one more line records with others, if it does. Fails only when out of memory.
+/// Notes the character that one more line records with others, if it does. Fails only if memory is refused.
 fn note_further(
     further: &mut BTreeSet<char>,
     recorded: &Recorded<'_>,
@@ -149,7 +149,7 @@ fn note_further(
 }
 
 /// Notes the character that one more line records so, or alone as other than a common secondary, if it does. Fails only
-/// when out of memory.
+/// if memory is refused.
 fn note_odd(
     odd: &mut BTreeSet<char>,
     recorded: &Recorded<'_>,
@@ -172,7 +172,7 @@ fn note(noted: &mut BTreeSet<char>, character: Option<char>) -> Result<(), Alloc
     Ok(())
 }
 
-/// The character that a line records with others, where no record replaces that. Fails only when out of memory.
+/// The character that a line records with others, where no record replaces that. Fails only if memory is refused.
 fn further_character(recorded: &Recorded<'_>, line: &Record) -> Result<Option<char>, AllocError>
     ensures { IfOk result (λ character. character ≡ further_character (map said recorded.now.lines.now) (said line.now)) }
 {
@@ -196,7 +196,7 @@ fn further_character(recorded: &Recorded<'_>, line: &Record) -> Result<Option<ch
     }
 }
 
-/// The character that a line records so, or alone as other than a common secondary. Fails only when out of memory.
+/// The character that a line records so, or alone as other than a common secondary. Fails only if memory is refused.
 fn odd_character(recorded: &Recorded<'_>, line: &Record) -> Result<Option<char>, AllocError>
     ensures { IfOk result (λ character. character ≡ odd_character (map said recorded.now.lines.now) (said line.now)) }
 {

@@ -93,7 +93,7 @@ fn is_prefix_character(given: &Characters<'_>, c: char) -> bool
     !given.is_mark(c) && !given.is_digit(c) && !is_jamo(c as u32) && c != '\0'
 }
 
-/// Whether a text may stand behind a prefix.
+/// Whether a text may stand after a prefix.
 fn may_follow_prefix(all: &Characters<'_>, given: &Characters<'_>, text: &[char]) -> bool
     ensures { result ≡ may_follow_prefix (map said all.now.lines.now) (map said given.now.lines.now) text.now }
 {

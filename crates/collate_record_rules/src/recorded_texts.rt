@@ -14,7 +14,7 @@ use collate_rules::noted::Characters;
 use collate_rules::recorded::Recorded;
 use std::alloc::{AllocError, Global};
 
-/// The first line with which a text has a starter behind a mark (rule V8, docs/RECORDS.md). Lines count from 0; `None` where
+/// The first line with which a text has a starter after a mark (rule V8, docs/RECORDS.md). Lines count from 0; `None` where
 /// no line offends.
 ///
 /// Errors: `AllocError` where memory is refused.
@@ -65,7 +65,7 @@ fn lacks_shorter(
     }
 }
 
-/// Whether a text of two characters or more isn't recorded by itself, where a mark stands behind it.
+/// Whether a text of two characters or more isn't recorded by itself, where a mark stands after it.
 fn lacks_record(
     all: &Characters<'_>,
     recorded: &Recorded<'_>,
@@ -85,7 +85,7 @@ fn lacks_record(
     Ok(!is_recorded)
 }
 
-/// The test of texts for starters behind marks.
+/// The test of texts for starters after marks.
 #[derive(Drop)]
 struct MarksLastTest<'r> {
     all: Characters<'r>,
@@ -104,7 +104,7 @@ impl<'r> LinesTest for MarksLastTest<'r> {
     }
 }
 
-/// Whether a text of these lines has a starter behind a mark: a mark by the classes that they give, and a starter by the
+/// Whether a text of these lines has a starter after a mark: a mark by the classes that they give, and a starter by the
 /// classes of all lines.
 fn breaks_marks_last(all: &Characters<'_>, given: &Characters<'_>, lines: &[Record]) -> bool
     requires { given.now.lines.now ≡ lines.now }
@@ -140,7 +140,7 @@ fn has_starter_behind(all: &Characters<'_>, given: &Characters<'_>, text: &[char
     false
 }
 
-/// Whether a character is a mark, and a starter stands in what is behind it.
+/// Whether a character is a mark, and a starter stands in what is after it.
 fn is_before_starter(all: &Characters<'_>, given: &Characters<'_>, c: char, behind: &[char]) -> bool
     ensures { result ≡ (is_mark (map said given.now.lines.now) c && list_any (λ d. not (is_mark (map said all.now.lines.now) d)) behind.now) }
 {

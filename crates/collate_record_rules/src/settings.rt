@@ -137,12 +137,12 @@ fn are_above_specials(groups: &[u16]) -> bool
 fn never_falls(groups: &[u16]) -> bool
     ensures { result ≡ never_falls groups.now }
 {
-    let mut place = 0;
-    while place + 1 < groups.len() {
-        if groups[place] > groups[place + 1] {
+    let mut index = 0;
+    while index + 1 < groups.len() {
+        if groups[index] > groups[index + 1] {
             return false;
         }
-        place += 1;
+        index += 1;
     }
     true
 }
@@ -196,14 +196,14 @@ fn is_exchange(alloc: Global, pairs: &[(u8, u8)]) -> Result<bool, AllocError>
     Ok(are_exchanged(&leads, &others))
 }
 
-/// The leads that change places. Fails only when out of memory.
+/// The leads that change places. Fails only if memory is refused.
 fn first_leads(alloc: Global, pairs: &[(u8, u8)]) -> Result<Vec<u8>, AllocError>
     ensures { IfOk result (λ leads. leads.items ≡ map (λ pair. pair.0) pairs.now) }
 {
     pairs.iter().map(|pair| pair.0).collect(alloc)
 }
 
-/// The leads whose places they take. Fails only when out of memory.
+/// The leads whose places they take. Fails only if memory is refused.
 fn second_leads(alloc: Global, pairs: &[(u8, u8)]) -> Result<Vec<u8>, AllocError>
     ensures { IfOk result (λ leads. leads.items ≡ map (λ pair. pair.1) pairs.now) }
 {

@@ -253,12 +253,12 @@ fn first_offender(
 
 /// Refuses a file for the first record that offends against a rule, if there is one.
 fn refuse(rule: Rule, found: Option<usize>, numbers: &[usize]) -> Result<(), RecordsError>
-    requires { IfSome found (λ place. place < length numbers.now) }
+    requires { IfSome found (λ index. index < length numbers.now) }
     ensures asks { (limits : PlainLimits) (file : List ℕ) (records : List PlainRecord) → AsksRule limits rule file records numbers.now found result }
     ensures none { OnOk result (found ≡ None) }
 {
     match found {
-        Some(place) => Err(fault(numbers[place], rule)),
+        Some(index) => Err(fault(numbers[index], rule)),
         None => Ok(()),
     }
 }

@@ -3,5 +3,5 @@ pub mod GivenCountLemmas
 pub mod GivesLemmas
 pub mod GrammarLemmas
 pub mod GivenListLemmas
-pub mod GivenPlaceLemmas
+pub mod GivenIndexLemmas
 pub mod GivenSoundLemmas

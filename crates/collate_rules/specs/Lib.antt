@@ -9,7 +9,7 @@ pub mod LineCounts
 pub mod Lists
 pub mod Meaning
 pub mod Offenders
-pub mod Places
+pub mod Indices
 pub mod Rules
 pub mod RecordRules
 pub mod SettingLines

@@ -30,7 +30,7 @@ abbrev pub lone_character : Record → Option ℕ
 lone_character (weights layer [] (c ∷ []) es) = Some c
 lone_character _ = None
 
--- the character that a line records with others behind it or before it, where no record replaces that
+-- the character that a line records with others after it or before it, where no record replaces that
 abbrev pub further_character : List Record → Record → Option ℕ
 further_character records (weights layer prefix (c ∷ cs) es) =
     cond (is_alone prefix (c ∷ cs) || is_replaced records layer prefix (c ∷ cs)) None (Some c)
@@ -42,7 +42,7 @@ odd_character records (weights layer prefix (c ∷ cs) es) =
     cond ((is_alone prefix (c ∷ cs) && is_common_secondary es) || is_replaced records layer prefix (c ∷ cs)) None (Some c)
 odd_character records _ = None
 
--- whether records lack a text of two characters or more, behind which a mark stands
+-- whether records lack a text of two characters or more, after which a mark stands
 abbrev pub lacks_record : List Record → List ℕ → ℕ → Bool
 lacks_record records shorter last =
     ltb 1 (length shorter) && (is_mark records last && not (is_recorded_in (weights_of records) [] shorter))

@@ -39,7 +39,7 @@ is_to_some _ = false
 abbrev pub has_mapping : List Record → ℕ → Bool
 has_mapping lines c = cond (is_built_in c) (is_to_some (built_in_step c)) (is_some (first_found (mapping_in c) lines))
 
--- whether a mark stands directly behind one of a higher class
+-- whether a mark stands directly after one of a higher class
 abbrev pub is_disordered : (ℕ → ℕ) → List ℕ → Bool
 is_disordered class_of [] = false
 is_disordered class_of (a ∷ []) = false
@@ -60,7 +60,7 @@ breaks_decomposed lines = list_any (is_undecomposed lines) lines
 
 -- ## V8: after a mark a text has only marks
 
--- whether a starter stands behind a mark, near or far
+-- whether a starter stands after a mark, near or far
 abbrev pub has_starter_behind : (ℕ → Bool) → (ℕ → Bool) → List ℕ → Bool
 has_starter_behind is_mark is_starter [] = false
 has_starter_behind is_mark is_starter (c ∷ cs) =
@@ -109,7 +109,7 @@ breaks_prefixes records lines = list_any (is_badly_prefixed records lines) lines
 
 -- ## V11: a digit is a starter, no jamo, and has one lone record
 
--- whether a line records a character with others behind it or before it, and no record replaces that
+-- whether a line records a character with others after it or before it, and no record replaces that
 abbrev pub is_further : List Record → ℕ → Record → Bool
 is_further records c (weights layer prefix text es) =
     begins_with c text && not (is_alone prefix text) && not (is_replaced records layer prefix text)

@@ -49,7 +49,7 @@ IsLong _ = ⊥
 abbrev pub blocks_in : (ℕ → ℕ) → List Record → ℕ
 blocks_in block_of records = different (map block_of (flat_map named records)) + 3 * count_by is_range records
 
--- a text of several characters, or one behind a prefix
+-- a text of several characters, or one after a prefix
 abbrev pub is_beside : Record → Bool
 is_beside (weights layer [] (c ∷ []) es) = false
 is_beside (weights layer prefix text es) = true

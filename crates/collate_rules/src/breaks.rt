@@ -4,7 +4,7 @@ ghost use Rattle.std.specs.Prelude.{map, IfOk, MatchOption};
 ghost use Rattle.collate_lines.specs.Record.{said};
 ghost use Rattle.collate_rules.specs.Breaks.{IsFirstBreak, IsLasting, NoneBreak};
 
-use crate::places::next_place;
+use crate::indices::next_index;
 use collate_lines::record::Record;
 use std::alloc::{AllocError, Global};
 
@@ -16,13 +16,13 @@ pub trait LinesTest {
     /// Whether lines break the rule.
     ghost breach: { Self → List PlainRecord → Bool };
 
-    /// Whether these lines break the rule. Fails only when out of memory.
+    /// Whether these lines break the rule. Fails only if memory is refused.
     fn breaks(&self, alloc: Global, lines: &[Record]) -> Result<bool, AllocError>
         ensures { IfOk result (λ yes. yes ≡ breach self.now (map said lines.now)) };
 }
 
-/// The first line with which those up to it break a rule that further lines don't heal. Lines count from 0; `None` where they never do. Fails only when
-/// out of memory.
+/// The first line with which those up to it break a rule that further lines don't heal. Lines count from 0; `None` where they never do. Fails only if
+/// memory is refused.
 ///
 /// Besides all lines few beginnings of them are tested: where one of the last two lines breaks the rule three, however
 /// many lines there are, else at most three more than the number of lines has bits.
@@ -43,7 +43,7 @@ pub fn first_to_break<T: LinesTest>(
     let mut low = 0;
     let mut high = last;
     'narrowing: while low < high {
-        let line = next_place(low, high, last);
+        let line = next_index(low, high, last);
         let is_broken = test.breaks(alloc, &records[..line + 1])?;
         if is_broken {
             high = line;

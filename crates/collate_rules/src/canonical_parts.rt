@@ -67,7 +67,7 @@ impl CanonicalParts {
         }
     }
 
-    /// What these lines say, in their order. Fails only when out of memory.
+    /// What these lines say, in their order. Fails only if memory is refused.
     pub fn of_lines(alloc: Global, lines: &[Record]) -> Result<CanonicalParts, AllocError>
         requires { All IsShort (map said lines.now) }
         ensures { IfOk result (λ parts. AreOf parts.list.items (map said lines.now)) }
@@ -80,7 +80,7 @@ impl CanonicalParts {
         Ok(parts)
     }
 
-    /// With what one more line says, if it says something of classes and mappings. Fails only when out of memory.
+    /// With what one more line says, if it says something of classes and mappings. Fails only if memory is refused.
     fn with_line(self, line: &Record) -> Result<CanonicalParts, AllocError>
         requires { IsShort (said line.now) }
         ensures { (lines : List PlainRecord) → AreOf self.list.items lines → IfOk result (λ parts. AreOf parts.list.items (lines ++ said line.now ∷ [])) }
@@ -91,7 +91,7 @@ impl CanonicalParts {
         }
     }
 
-    /// With one part more, which stands last. Fails only when out of memory.
+    /// With one part more, which stands last. Fails only if memory is refused.
     pub fn with(self, part: CanonicalPart) -> Result<CanonicalParts, AllocError>
         ensures { IfOk result (λ parts. parts.list.items ≡ self.list.items ++ part ∷ []) }
     {

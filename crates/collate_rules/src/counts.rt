@@ -23,7 +23,7 @@ const NARROW_BLOCK_LIMIT: usize = 11_000;
 /// The most elements, with one for each text, range and digit.
 const ELEMENT_LIMIT: usize = 520_000;
 
-/// The most texts of several characters or behind a prefix.
+/// The most texts of several characters or after a prefix.
 const BESIDE_LIMIT: usize = 3_600;
 
 /// The most characters of full lists, of one kind.
@@ -114,7 +114,7 @@ fn is_range(given: &Record) -> bool
     matches!(given, Record::Range(_))
 }
 
-/// Whether a line gives elements to a text of several characters, or to one behind a prefix.
+/// Whether a line gives elements to a text of several characters, or to one after a prefix.
 fn is_beside(given: &Record) -> bool
     ensures { result ≡ is_beside (said given.now) }
 {

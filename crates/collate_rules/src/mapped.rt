@@ -40,7 +40,7 @@ impl Drop for Mapped<'_> {
 }
 
 impl<'r> Mapped<'r> {
-    /// What these lines map. Fails only when out of memory.
+    /// What these lines map. Fails only if memory is refused.
     pub(crate) fn new(alloc: Global, lines: &'r [Record]) -> Result<Mapped<'r>, AllocError>
         ensures { IfOk result (λ noted. noted.lines.now ≡ lines.now) }
     {
@@ -162,7 +162,7 @@ fn room_alone(characters: &[char]) -> usize
     }
 }
 
-/// To how many characters lines map canonically. Fails only when out of memory.
+/// To how many characters lines map canonically. Fails only if memory is refused.
 fn mappings_in(alloc: Global, lines: &[Record]) -> Result<BTreeMap<char, usize>, AllocError>
     ensures { IfOk result (λ lengths. HasMappings lengths (map said lines.now)) }
 {
@@ -186,7 +186,7 @@ fn note_mapping(lengths: &mut BTreeMap<char, usize>, line: &Record) -> Result<()
     }
 }
 
-/// To how many characters lines map by compatibility. Fails only when out of memory.
+/// To how many characters lines map by compatibility. Fails only if memory is refused.
 fn compatibilities_in(alloc: Global, lines: &[Record]) -> Result<BTreeMap<char, usize>, AllocError>
     ensures { IfOk result (λ lengths. HasCompatibilities lengths (map said lines.now)) }
 {

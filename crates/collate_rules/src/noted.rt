@@ -46,7 +46,7 @@ impl Drop for Characters<'_> {
 }
 
 impl<'r> Characters<'r> {
-    /// What these lines say. Fails only when out of memory.
+    /// What these lines say. Fails only if memory is refused.
     pub fn new(alloc: Global, lines: &'r [Record]) -> Result<Characters<'r>, AllocError>
         ensures { IfOk result (λ noted. noted.lines.now ≡ lines.now) }
     {
@@ -117,7 +117,7 @@ pub(crate) fn is_to_some(step: Option<Decomposed>) -> bool
     }
 }
 
-/// The classes that lines give. Fails only when out of memory.
+/// The classes that lines give. Fails only if memory is refused.
 fn classes_in(alloc: Global, lines: &[Record]) -> Result<BTreeMap<char, u16>, AllocError>
     ensures { IfOk result (λ classes. HasClasses classes (map said lines.now)) }
 {
@@ -155,7 +155,7 @@ fn put_class(
     Ok(())
 }
 
-/// The digits that lines give. Fails only when out of memory.
+/// The digits that lines give. Fails only if memory is refused.
 fn digits_in(alloc: Global, lines: &[Record]) -> Result<BTreeMap<char, u8>, AllocError>
     ensures { IfOk result (λ digits. HasDigits digits (map said lines.now)) }
 {
@@ -189,7 +189,7 @@ fn put_digit(digits: &mut BTreeMap<char, u8>, character: char, value: u8) -> Res
     Ok(())
 }
 
-/// The characters that lines map canonically. Fails only when out of memory.
+/// The characters that lines map canonically. Fails only if memory is refused.
 fn mapped_in(alloc: Global, lines: &[Record]) -> Result<BTreeSet<char>, AllocError>
     ensures { IfOk result (λ mapped. HasMapped mapped (map said lines.now)) }
 {
@@ -213,7 +213,7 @@ fn note_mapped(mapped: &mut BTreeSet<char>, line: &Record) -> Result<(), AllocEr
     }
 }
 
-/// The characters that lines record alone. Fails only when out of memory.
+/// The characters that lines record alone. Fails only if memory is refused.
 fn recorded_alone_in(alloc: Global, lines: &[Record]) -> Result<BTreeSet<char>, AllocError>
     ensures { IfOk result (λ alone. HasAlone alone (map said lines.now)) }
 {
@@ -237,7 +237,7 @@ fn note_alone(alone: &mut BTreeSet<char>, line: &Record) -> Result<(), AllocErro
     }
 }
 
-/// Notes a character. Fails only when out of memory.
+/// Notes a character. Fails only if memory is refused.
 pub(crate) fn put(noted: &mut BTreeSet<char>, character: char) -> Result<(), AllocError>
     ensures { OnOk result ((c : ℕ) → contains nat_cmp noted.new c ≡ (contains nat_cmp noted.old c || (c == character))) }
 {

@@ -8,7 +8,7 @@ ghost use Rattle.collate_rules.specs.Breaches.{AsksForSaid, Breach, IsFirstToBre
 
 use crate::canonical_part::canonical_part;
 use crate::canonical_parts::CanonicalParts;
-use crate::places::next_place;
+use crate::indices::next_index;
 use collate_lines::record::Record;
 use collate_lines::rule::Rule;
 use std::alloc::{AllocError, Global};
@@ -54,7 +54,7 @@ fn lines_cleared<C: Fn(&CanonicalParts) -> Result<bool, AllocError>>(
     let mut low = 0;
     let mut high = records.len();
     'narrowing: while low + 1 < high {
-        let count = next_place(low + 1, high, records.len());
+        let count = next_index(low + 1, high, records.len());
         let front = CanonicalParts::of_lines(alloc, &records[..count])?;
         let is_front_clear = clears(&front)?;
         if is_front_clear {

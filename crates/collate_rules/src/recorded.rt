@@ -34,7 +34,7 @@ impl Drop for Recorded<'_> {
 }
 
 impl<'r> Recorded<'r> {
-    /// What these lines record. Fails only when out of memory.
+    /// What these lines record. Fails only if memory is refused.
     pub fn new(alloc: Global, lines: &'r [Record]) -> Result<Recorded<'r>, AllocError>
         ensures { IfOk result (λ noted. noted.lines.now ≡ lines.now) }
     {
@@ -48,7 +48,7 @@ impl<'r> Recorded<'r> {
         })
     }
 
-    /// Whether lines of a layer record a text after a prefix. Fails only when out of memory.
+    /// Whether lines of a layer record a text after a prefix. Fails only if memory is refused.
     fn is_given(&self, layer: Layer, prefix: &[char], text: &[char]) -> Result<bool, AllocError>
         ensures { IfOk result (λ yes. yes ≡ is_given (layer_of layer) prefix.now text.now (map said self.now.lines.now)) }
     {
@@ -59,7 +59,7 @@ impl<'r> Recorded<'r> {
         Ok(yes)
     }
 
-    /// Whether lines record a text after a prefix, in either layer. Fails only when out of memory.
+    /// Whether lines record a text after a prefix, in either layer. Fails only if memory is refused.
     pub fn is_recorded(&self, prefix: &[char], text: &[char]) -> Result<bool, AllocError>
         ensures { IfOk result (λ yes. yes ≡ is_recorded_in (weights_of (map said self.now.lines.now)) prefix.now text.now) }
     {
@@ -71,7 +71,7 @@ impl<'r> Recorded<'r> {
         Ok(is_of_root)
     }
 
-    /// Whether a record of the tailoring replaces that of a line of a layer. Fails only when out of memory.
+    /// Whether a record of the tailoring replaces that of a line of a layer. Fails only if memory is refused.
     pub fn is_replaced(
         &self,
         layer: Layer,

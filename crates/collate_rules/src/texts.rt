@@ -29,7 +29,7 @@ impl Drop for Texts {
 }
 
 impl Texts {
-    /// The texts that lines of a layer record. Fails only when out of memory.
+    /// The texts that lines of a layer record. Fails only if memory is refused.
     pub(crate) fn of_layer(
         alloc: Global,
         layer: Layer,
@@ -47,7 +47,7 @@ impl Texts {
         Ok(texts)
     }
 
-    /// Whether a text after a prefix is one of these. Fails only when out of memory.
+    /// Whether a text after a prefix is one of these. Fails only if memory is refused.
     pub(crate) fn contains(
         &self,
         alloc: Global,
@@ -121,7 +121,7 @@ fn lone_of(prefix: &[char], text: &[char]) -> Option<char>
     }
 }
 
-/// A prefix and a text, as a key. Fails only when out of memory.
+/// A prefix and a text, as a key. Fails only if memory is refused.
 fn key_of(alloc: Global, prefix: &[char], text: &[char]) -> Result<Key, AllocError>
     ensures { IfOk result (λ key. (key.0.items ≡ prefix.now) × (key.1.items ≡ text.now)) }
 {

@@ -8,7 +8,7 @@ use Rattle.collate_run.specs.Runs.{IsWithin, input_limit}
 use Rattle.collate_run.specs.declared.run.RunFault.{RunFault}
 use Rattle.collate_run.specs.declared.run.RunFault.TheVariants.{Read, Write}
 
--- Bytes came behind those that waited: the writer got a first part of them all, and at `Ok` the rest waits.
+-- Bytes came after those that waited: the writer got a first part of them all, and at `Ok` the rest waits.
 pub record Gathers {E : Type 0} (result : Result (Unit {0}) E) (old new : Option (List ℕ)) (waited waits bytes : List ℕ) : Type 0 where
   pub sent : List ℕ
   pub unsent : List ℕ
@@ -16,7 +16,7 @@ pub record Gathers {E : Type 0} (result : Result (Unit {0}) E) (old new : Option
   pub appends : Appends old new sent
   pub rest : OnOk result (unsent ≡ waits)
 
--- a line that is whole at the front of these bytes, within the limit, and has no record line behind it
+-- a line that is whole at the front of these bytes, within the limit, and has no record line after it
 pub record IsReadyLine (line bytes : List ℕ) : Type 0 where
   pub unended : IsUnended line
   pub short : IsWithin line

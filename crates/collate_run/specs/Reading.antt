@@ -1,4 +1,4 @@
--- a line, and a line with the record lines behind it, as they are read
+-- a line, and a line with the record lines after it, as they are read
 use Rattle.std.specs.Prelude.{◌≡◌, ◌≢◌, ℕ, Bool, true, false, ◌+◌, ◌<◌, ◌≤◌, MatchBool, ◌-◌, Option, None, Some, Result, Ok, Err, List, [], ◌∷◌, ◌++◌, length, flat_map, All, IfSome}
 use Rattle.std.specs.Io.KnownBytes.{Consumes, Keeps, IsAtEnd}
 use Rattle.collate_run.specs.Replies.{AreFirst, behind, ended}
@@ -44,7 +44,7 @@ spelled lines = flat_map ended lines
 abbrev pub AreWhole : List (List ℕ) → List ℕ → Type 0
 AreWhole lines bytes = All IsUnended lines × (bytes ≡ spelled lines)
 
--- These bytes are a line and so many record lines behind it. The last of them may lack its LF if nothing is left to read. The
+-- These bytes are a line and so many record lines after it. The last of them may lack its LF if nothing is left to read. The
 -- counts are of the bytes before and after.
 pub record SpellsRequest (request : Request) (many : ℕ) (left : Option (List ℕ)) (before after : ℕ) (bytes : List ℕ) : Type 0 where
   pub records : List (List ℕ)

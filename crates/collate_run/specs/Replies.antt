@@ -35,10 +35,10 @@ abbrev pub if_after : Option (List ℕ) → (List ℕ → LineCommand) → LineC
 if_after None command other = other
 if_after (Some rest) command other = command rest
 
--- two names, parted at a place
+-- two names, parted at an index
 abbrev pub parted_at : List ℕ → Option ℕ → LineCommand
 parted_at names None = unknown
-parted_at names (Some place) = between (take place names) (drop (place + 1) names)
+parted_at names (Some index) = between (take index names) (drop (index + 1) names)
 
 -- what comes after `between `: two names, parted at the first TAB
 abbrev pub between_command : List ℕ → LineCommand
@@ -74,7 +74,7 @@ abbrev pub records_asked : LineCommand → ℕ
 records_asked (reload count) = count
 records_asked _ = 0
 
--- how many record lines stand behind a line
+-- how many record lines stand after a line
 abbrev pub behind : List ℕ → ℕ
 behind line = records_asked (command_of line)
 
@@ -106,7 +106,7 @@ Reloads file old new (Ok made) = IsAcceptedWithin old.limits file × (new ≡ re
 Reloads file old new (Err fault) = RefusesWithin old.limits file (Fault fault) × (new ≡ old)
 
 -- what a command does that gets its memory: text is its reply, old and new the catalogue before and after it; file is the
--- record lines behind it
+-- record lines after it
 abbrev pub Grants : LineCommand → List ℕ → Catalogue → Catalogue → List ℕ → Type 0
 Grants (add name) file old new text =
     (Contains old.arrivals name × (text ≡ codes "duplicate\n") × (new ≡ old))
@@ -131,7 +131,7 @@ AsksMemory _ = Unit {0}
 abbrev pub Denies : LineCommand → Catalogue → Catalogue → List ℕ → Type 0
 Denies command old new text = AsksMemory command × (text ≡ codes "memory\n") × (new ≡ old)
 
--- a line, with the record lines behind it (file), got this text and turned the old catalogue into the new one
+-- a line, with the record lines after it (file), got this text and turned the old catalogue into the new one
 abbrev pub Answers : List ℕ → List ℕ → Catalogue → Catalogue → List ℕ → Type 0
 Answers line file old new text = Grants (command_of line) file old new text ⊎ Denies (command_of line) old new text
 

@@ -68,7 +68,7 @@ abbrev pub KeepsInputLimit : Result (Unit {0}) RunFault → ℕ → List ℕ →
 KeepsInputLimit (Err InputTooLong) limit taken = length taken ≡ limit + 1
 KeepsInputLimit _ limit taken = length taken ≤ limit
 
--- a `reload` line with fewer record lines behind it than it asks for
+-- a `reload` line with fewer record lines after it than it asks for
 abbrev pub IsCutReload : List (List ℕ) → Type 0
 IsCutReload [] = ⊥
 IsCutReload (line ∷ records) = length records < behind line

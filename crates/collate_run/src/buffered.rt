@@ -87,7 +87,7 @@ fn show_reply<W: Write>(writer: &mut Watched<W>, reply: &Reply) -> Result<(), Ru
     }
 }
 
-/// Lets bytes wait where the room holds them behind those that wait, and tells whether it does. It takes no memory.
+/// Lets bytes wait where the room holds them after those that wait, and tells whether it does. It takes no memory.
 fn waits(waiting: &mut Vec<u8>, bytes: &[u8]) -> bool
     ensures { waiting.new.items ≡ (if result then waiting.old.items ++ bytes.now else waiting.old.items) }
 {
@@ -97,7 +97,7 @@ fn waits(waiting: &mut Vec<u8>, bytes: &[u8]) -> bool
     waiting.extend_from_slice(bytes).is_ok()
 }
 
-/// Puts bytes behind those that wait; where the room doesn't hold both, all are sent.
+/// Puts bytes after those that wait; where the room doesn't hold both, all are sent.
 fn put<W: Write>(
     writer: &mut Watched<W>,
     waiting: &mut Vec<u8>,
@@ -133,7 +133,7 @@ fn text_of(reply: &Reply) -> Option<&[u8]>
     }
 }
 
-/// Puts a reply behind those that wait, with the LF of each of its lines. It takes no memory.
+/// Puts a reply after those that wait, with the LF of each of its lines. It takes no memory.
 fn put_reply<W: Write>(
     writer: &mut Watched<W>,
     waiting: &mut Vec<u8>,
@@ -153,15 +153,15 @@ fn put_reply<W: Write>(
     }
 }
 
-/// The place of the first LF.
+/// The index of the first LF.
 fn first_end(bytes: &[u8]) -> Option<usize>
-    ensures place { result ≡ position (λ byte. byte == 10) bytes.now }
-    ensures bound { IfSome result (λ place. place < length bytes.now) }
+    ensures index { result ≡ position (λ byte. byte == 10) bytes.now }
+    ensures bound { IfSome result (λ index. index < length bytes.now) }
 {
     bytes.iter().position(|byte| *byte == b'\n')
 }
 
-/// The line at the front of these bytes, without its LF, if it is whole, within the limit, and no record line stands behind it.
+/// The line at the front of these bytes, without its LF, if it is whole, within the limit, and no record line stands after it.
 fn ready_line(bytes: &[u8]) -> Option<&[u8]>
     ensures { IfSome result (λ line. IsReadyLine line.now bytes.now) }
 {
@@ -178,7 +178,7 @@ fn ready_line(bytes: &[u8]) -> Option<&[u8]>
     Some(line)
 }
 
-/// Answers a line with no record line behind it.
+/// Answers a line with no record line after it.
 fn answer_alone(alloc: Global, index: &mut Index, line: &[u8]) -> Reply
     ensures { Answers line.now [] index.old index.new (reply_text result) }
 {
@@ -309,7 +309,7 @@ fn answer_buffered<R: BufRead, W: Write>(
 /// replies are written together, and flushed, before the reader is asked for more. So whoever types a line gets its reply at
 /// once, and a long input takes few calls of the writer.
 ///
-/// At `RunFault::Write` replies may be missing to commands that stood in the buffer together; none behind them was read. Memory
+/// At `RunFault::Write` replies may be missing to commands that stood in the buffer together; none after them was read. Memory
 /// for replies that wait, 64 KB, is had before the first read, else the run ends by `RunFault::Memory`. A reader that told its
 /// end may be asked once more.
 pub fn run_buffered<R: BufRead, W: Write>(

@@ -28,7 +28,7 @@ pub fn files_in_another_order_reply_alike()
         → Ran (opened_by limits moved preferences options) result reader_old reader_new writer_old writer_new }
 {}
 
-/// What the program serves of a file that is cut behind the first byte past its most bytes is what it serves of the whole file,
+/// What the program serves of a file that is cut after the first byte past its most bytes is what it serves of the whole file,
 /// and the other way round: so it need read no more of FILE, and a longer one is refused as it would be whole.
 pub fn files_cut_past_their_size_are_served_alike()
     ensures { (limits : Limits) (status : ℕ) (reader_old reader_new writer_old writer_new errors_old errors_new : Option (List ℕ)) (choice : Choice) (file : List ℕ)

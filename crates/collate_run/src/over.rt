@@ -124,9 +124,9 @@ fn serve_joined<R: BufRead, W: Write, E: Write>(
 /// Serves the words of the program, the bytes of a root and those of FILE, which is put over it, as `serve_buffered` serves
 /// a FILE that holds the join of both. `root_path` is the path of the root. Answers the status of the program.
 ///
-/// Status and messages are those of `serve_buffered`, but that a fault of the root comes before one of FILE, and that behind
-/// `refused LINE RULE` stands the path of the file that has the line; `refused LINE without PATH` says that FILE leaves
-/// out in that line what the root doesn't weigh.
+/// Status and messages are those of `serve_buffered`, but that a fault of the root comes before one of FILE, and that after
+/// `refused LINE RULE` stands the path of the file that has the line; `refused LINE without PATH` says that FILE leaves out
+/// in that line what the root doesn't weigh.
 pub fn serve_over<R: BufRead, W: Write, E: Write>(
     alloc: Global,
     setup: Setup,
@@ -175,7 +175,7 @@ pub fn serve_over<R: BufRead, W: Write, E: Write>(
     }
 }
 
-/// Serves the words behind ROOT, which are FILE and options, over the files of these names. `has_input` is whether there
+/// Serves the words after ROOT, which are FILE and options, over the files of these names. `has_input` is whether there
 /// was memory for the reader. Answers the status of the program.
 fn serve_paths<R: BufRead, W: Write, E: Write>(
     rt: &HostRuntime,

@@ -63,7 +63,7 @@ pub(crate) fn file_bytes<F: Read + Drop>(
 /// Serves the words of the program: a run over the records of FILE, which is opened by its path, from the reader to the
 /// writer. `has_input` is whether there was memory for the reader; else nothing is run. Answers the status of the program.
 ///
-/// Status and messages are those of `serve_buffered`; want of memory for the reader is told where FILE itself has no fault.
+/// Status and messages are those of `serve_buffered`; refused memory for the reader is told where FILE itself has no fault.
 pub fn serve_words<
     F: Read + Drop,
     O: FnOnce(&str) -> io::Result<F> + Drop,

@@ -1,4 +1,4 @@
-//! The reply to one line of a run, with the record lines behind it.
+//! The reply to one line of a run, with the record lines after it.
 
 ghost use Rattle.std.specs.Prelude.{◌≡◌, ◌==◌, ◌<◌, ◌≤◌, ℕ, List, length, position, slice_range, IfOk, IfSome};
 ghost use Rattle.collate_index.specs.Catalogue.{sorted_names};
@@ -67,20 +67,20 @@ fn read_between(names: &[u8]) -> Command<'_>
     ensures { line_command result ≡ between_command names.now }
 {
     match first_tab(names) {
-        Some(place) => Command::Between(&names[..place], &names[place + 1..]),
+        Some(tab) => Command::Between(&names[..tab], &names[tab + 1..]),
         None => Command::Unknown,
     }
 }
 
-/// The place of the first TAB.
+/// The index of the first TAB.
 fn first_tab(names: &[u8]) -> Option<usize>
-    ensures place { result ≡ position (λ byte. byte == 9) names.now }
-    ensures bound { IfSome result (λ place. place < length names.now) }
+    ensures index { result ≡ position (λ byte. byte == 9) names.now }
+    ensures bound { IfSome result (λ index. index < length names.now) }
 {
     names.iter().position(|byte| *byte == b'\t')
 }
 
-/// Reads what comes after `reload ` as the number of record lines behind the line.
+/// Reads what comes after `reload ` as the number of record lines after the line.
 fn read_reload(digits: &[u8]) -> Command<'_>
     ensures { line_command result ≡ reload_of (record_count digits.now) }
 {
@@ -124,7 +124,7 @@ fn digit_value(digit: u8) -> Option<u8>
     }
 }
 
-/// How many record lines stand behind a line.
+/// How many record lines stand after a line.
 pub(crate) fn records_behind(line: &[u8]) -> usize
     ensures { result ≡ behind line.now }
 {
@@ -134,7 +134,7 @@ pub(crate) fn records_behind(line: &[u8]) -> usize
     }
 }
 
-/// Answers one line, with the record lines behind it, from the index, which `add`, `remove` and `reload` change. `records` is
+/// Answers one line, with the record lines after it, from the index, which `add`, `remove` and `reload` change. `records` is
 /// what was kept of them: all, unless what was kept passes the size of a file; `None` where memory was refused for them.
 pub(crate) fn answer(alloc: Global, index: &mut Index, line: &[u8], records: Option<&[u8]>) -> Reply
     ensures { (file : List ℕ) → IfSome records.entry (λ given. AreFirst index.old.limits.bytes given.now file)
@@ -155,7 +155,7 @@ pub(crate) fn answer(alloc: Global, index: &mut Index, line: &[u8], records: Opt
             Err(_) => Reply::Memory,
         },
         Command::Between(first, last) => match index.between(first, last) {
-            Ok(places) => names_reply(alloc, index, places),
+            Ok(ranks) => names_reply(alloc, index, ranks),
             Err(_) => Reply::Memory,
         },
         Command::Key(name) => key_reply(alloc, index, name),
@@ -172,28 +172,28 @@ pub(crate) fn answer(alloc: Global, index: &mut Index, line: &[u8], records: Opt
     }
 }
 
-/// The reply that lists the names at these places.
-fn names_reply(alloc: Global, index: &Index, places: Range<usize>) -> Reply
-    requires order { places.start ≤ places.end }
-    requires bound { places.end ≤ length (sorted_names index.now) }
-    ensures { IsReply (listing (slice_range (sorted_names index.now) places.start places.end)) result }
+/// The reply that lists the names at these ranks.
+fn names_reply(alloc: Global, index: &Index, ranks: Range<usize>) -> Reply
+    requires order { ranks.start ≤ ranks.end }
+    requires bound { ranks.end ≤ length (sorted_names index.now) }
+    ensures { IsReply (listing (slice_range (sorted_names index.now) ranks.start ranks.end)) result }
 {
-    match listing_of(alloc, index, places) {
+    match listing_of(alloc, index, ranks) {
         Ok(text) => Reply::Lines(text),
         Err(_) => Reply::Memory,
     }
 }
 
-/// A line that says how many names stand at these places, then the names, a line each.
-fn listing_of(alloc: Global, index: &Index, places: Range<usize>) -> Result<Vec<u8>, AllocError>
-    requires order { places.start ≤ places.end }
-    requires bound { places.end ≤ length (sorted_names index.now) }
-    ensures { IfOk result (λ text. text.items ≡ listing (slice_range (sorted_names index.now) places.start places.end)) }
+/// A line that says how many names stand at these ranks, then the names, a line each.
+fn listing_of(alloc: Global, index: &Index, ranks: Range<usize>) -> Result<Vec<u8>, AllocError>
+    requires order { ranks.start ≤ ranks.end }
+    requires bound { ranks.end ≤ length (sorted_names index.now) }
+    ensures { IfOk result (λ text. text.items ≡ listing (slice_range (sorted_names index.now) ranks.start ranks.end)) }
 {
-    let count = places.end - places.start;
+    let count = ranks.end - ranks.start;
     let mut text = format!(in alloc; "names {count}\n")?.into_bytes();
-    for place in places.start..places.end {
-        if let Some(name) = index.get(place) {
+    for rank in ranks.start..ranks.end {
+        if let Some(name) = index.get(rank) {
             text.extend_from_slice(name)?;
             text.push(b'\n')?;
         }

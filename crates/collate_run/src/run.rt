@@ -57,11 +57,11 @@ struct Line {
     is_ended: bool,
 }
 
-/// A line that was read, and the record lines behind it.
+/// A line that was read, and the record lines after it.
 #[derive(Drop)]
 pub(crate) struct Request {
     pub(crate) line: Vec<u8>,
-    /// The record lines, an LF behind each, but for those past the limit; `None` where memory for them was refused.
+    /// The record lines, an LF after each, but for those past the limit; `None` where memory for them was refused.
     pub(crate) records: Option<Vec<u8>>,
     /// The most bytes that a file of records may have. Once more than that are kept, no line more is.
     limit: usize,
@@ -145,7 +145,7 @@ pub(crate) fn write_whole<W: Write>(writer: &mut Watched<W>, bytes: &[u8]) -> Re
     Ok(())
 }
 
-/// Puts a line, ended, behind the others, unless they pass the limit, so that the file is refused whatever comes behind.
+/// Puts a line, ended, after the others, unless they pass the limit, so that the file is refused whatever comes after.
 ///
 /// Errors: `AllocError` where memory is refused.
 fn put_line(records: &mut Vec<u8>, line: &[u8], limit: usize) -> Result<(), AllocError>
@@ -160,7 +160,7 @@ fn put_line(records: &mut Vec<u8>, line: &[u8], limit: usize) -> Result<(), Allo
     Ok(())
 }
 
-/// Puts a line, ended, behind the others, as `put_line` does; gives all of them up where memory is refused.
+/// Puts a line, ended, after the others, as `put_line` does; gives all of them up where memory is refused.
 fn with_line(records: Option<Vec<u8>>, line: &[u8], limit: usize) -> Option<Vec<u8>>
     ensures { (before : List ℕ) → IfSome records (λ kept. AreFirst limit kept.items before)
         → IfSome result (λ kept. AreFirst limit kept.items (before ++ ended line.now)) }
@@ -174,7 +174,7 @@ fn with_line(records: Option<Vec<u8>>, line: &[u8], limit: usize) -> Option<Vec<
     }
 }
 
-/// Reads the next line and the record lines behind it; `None` at the end of the input. `limit` is how many bytes a file of
+/// Reads the next line and the record lines after it; `None` at the end of the input. `limit` is how many bytes a file of
 /// records may have, and `count` how many have been read.
 pub(crate) fn next_request<R: Read>(
     alloc: Global,
@@ -298,7 +298,7 @@ fn answer_requests<R: Read, W: Write>(
 /// ends (README.md, "The program").
 ///
 /// A line is `add NAME`, `remove NAME`, `find NAME`, `between FIRST<TAB>LAST`, `key NAME`, `list` or `reload K`, of at most
-/// 65,536 bytes. Behind `reload K` stand K lines of the same length, the new file of records; with its line they are one
+/// 65,536 bytes. After `reload K` stand K lines of the same length, the new file of records; with its line they are one
 /// command. Any other line is answered `bad`, and a command that was refused memory `memory`. A fault ends the run: the
 /// replies to all whole commands before it have been written, and at `RunFault::Write` a first part of them. An interrupted
 /// call of the reader or writer is a fault like any other.

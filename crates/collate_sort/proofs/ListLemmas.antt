@@ -123,19 +123,19 @@ module _ (s : Inside) (kept : IsKept s) (now : Listing) (is : listing_of s ≡ n
     pub unordered_first : IfSome result (IsFirstUnordered unique (turned d key_order) s.lines) → IfSome result (IsFirstUnordered unique (line_order now.rule) now.lines)
     unordered_first told =
         IfSome_then result told
-        (λ place h. subst (λ (l : Listing). IsFirstUnordered unique (line_order l.rule) l.lines place) is
-        (unordered_mapped without_key (IsKeyed rule) order (line_order rule) (lines_compare rule kept.accepted) no_line unique s.lines kept.keyed place
-        (subst (λ (e : Direction). IsFirstUnordered unique (turned e key_order) s.lines place) same h)))
+        (λ index h. subst (λ (l : Listing). IsFirstUnordered unique (line_order l.rule) l.lines index) is
+        (unordered_mapped without_key (IsKeyed rule) order (line_order rule) (lines_compare rule kept.accepted) no_line unique s.lines kept.keyed index
+        (subst (λ (e : Direction). IsFirstUnordered unique (turned e key_order) s.lines index) same h)))
 
-  pub line_found : (place : ℕ) → slice_get (map (λ (line : KeyedLine). line.line) s.lines) place ≡ slice_get (map (λ (line : Line). line.line) now.lines) place
-  line_found place =
-      ap (λ (ls : List (List ℕ)). slice_get ls place) (sym (map-map (λ (line : Line). line.line) without_key s.lines))
-      ∙ ap (λ (l : Listing). slice_get (map (λ (line : Line). line.line) l.lines) place) is
+  pub line_found : (index : ℕ) → slice_get (map (λ (line : KeyedLine). line.line) s.lines) index ≡ slice_get (map (λ (line : Line). line.line) now.lines) index
+  line_found index =
+      ap (λ (ls : List (List ℕ)). slice_get ls index) (sym (map-map (λ (line : Line). line.line) without_key s.lines))
+      ∙ ap (λ (l : Listing). slice_get (map (λ (line : Line). line.line) l.lines) index) is
 
-  pub key_found : (place : ℕ)
-      → slice_get (map (λ (line : KeyedLine). line.key) s.lines) place ≡ slice_get (map (λ (line : Line). key_by_rule now.rule line.text) now.lines) place
-  key_found place =
-      ap (λ (ls : List (List ℕ)). slice_get ls place)
+  pub key_found : (index : ℕ)
+      → slice_get (map (λ (line : KeyedLine). line.key) s.lines) index ≡ slice_get (map (λ (line : Line). key_by_rule now.rule line.text) now.lines) index
+  key_found index =
+      ap (λ (ls : List (List ℕ)). slice_get ls index)
       (map_alike (λ (line : KeyedLine). line.key) (λ (line : KeyedLine). key_by_rule rule line.text) s.lines kept.keyed
       ∙ sym (map-map (λ (line : Line). key_by_rule rule line.text) without_key s.lines))
-      ∙ ap (λ (l : Listing). slice_get (map (λ (line : Line). key_by_rule l.rule line.text) l.lines) place) is
+      ∙ ap (λ (l : Listing). slice_get (map (λ (line : Line). key_by_rule l.rule line.text) l.lines) index) is

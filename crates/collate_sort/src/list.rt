@@ -72,7 +72,7 @@ impl<'o> LineList<'o> {
         self.lines.is_empty()
     }
 
-    /// Adds a line behind the last. Compared is what is given beside it, or all of it.
+    /// Adds a line after the last. Compared is what is given beside it, or all of it.
     ///
     /// Errors: `AllocError` where memory is refused; the list is then as before.
     pub fn add(&mut self, line: &[u8], text: Option<&[u8]>) -> Result<(), AllocError>
@@ -105,7 +105,7 @@ impl<'o> LineList<'o> {
         self.lines.sort_unique(self.order.direction())
     }
 
-    /// The place, counted from 0, of the first line that may not stand behind the one before it: that is below it or, where
+    /// The index, counted from 0, of the first line that may not stand after the one before it: that is below it or, where
     /// no two may be equal, isn't above it. `None` where the lines are in order.
     pub fn first_unordered(&self, unique: bool) -> Option<usize>
         ensures none { IfNone result (AreInOrder unique (line_order self.now.rule) self.now.lines (length self.now.lines)) }
@@ -114,18 +114,18 @@ impl<'o> LineList<'o> {
         self.lines.first_unordered(self.order.direction(), unique)
     }
 
-    /// The line at a place, counted from 0; `None` past the last.
-    pub fn get(&self, place: usize) -> Option<&[u8]>
-        ensures { option_copied result ≡ slice_get (map (λ (line : Line). line.line) self.now.lines) place }
+    /// The line at an index, counted from 0; `None` past the last.
+    pub fn get(&self, index: usize) -> Option<&[u8]>
+        ensures { option_copied result ≡ slice_get (map (λ (line : Line). line.line) self.now.lines) index }
     {
-        self.lines.get(place)
+        self.lines.get(index)
     }
 
-    /// The sort key of the line at a place, counted from 0: that of what of it is compared; `None` past the last.
-    pub fn key(&self, place: usize) -> Option<&[u8]>
-        ensures { option_copied result ≡ slice_get (map (λ (line : Line). key_by_rule self.now.rule line.text) self.now.lines) place }
+    /// The sort key of the line at an index, counted from 0: that of what of it is compared; `None` past the last.
+    pub fn key(&self, index: usize) -> Option<&[u8]>
+        ensures { option_copied result ≡ slice_get (map (λ (line : Line). key_by_rule self.now.rule line.text) self.now.lines) index }
     {
-        self.lines.key(place)
+        self.lines.key(index)
     }
 
     /// How many bytes of memory the lines fill, and putting them in order takes.

@@ -89,7 +89,7 @@ impl LineOrder {
         let _ = &self.records;
     }
 
-    /// Writes the key of a text behind what a list holds: texts compare as their keys do, byte by byte, before the direction
+    /// Writes the key of a text after what a list holds: texts compare as their keys do, byte by byte, before the direction
     /// turns them. Bytes that are no character count as U+FFFD, one for each maximal subpart.
     ///
     /// Errors: `AllocError` where memory is refused; the list may then hold a first part of the key.

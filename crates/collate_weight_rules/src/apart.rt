@@ -9,7 +9,7 @@ ghost use Rattle.collate_weight_rules.specs.PlacedWeights.{HasPlaced, are_weight
 use crate::given::placed_elements;
 use collate_lines::record::Record;
 use collate_lines::rule::Rule;
-use collate_rules::places::{PlaceTest, first_place};
+use collate_rules::indices::{IndexTest, first_index};
 use icu_collator_core::weight_rules::are_apart;
 use icu_collator_types::elements::Element;
 use std::alloc::{AllocError, Global};
@@ -23,7 +23,7 @@ pub fn first_begun_weight(alloc: Global, records: &[Record]) -> Result<Option<us
     ensures { IfOk result (λ found. MatchOption found (NoneOffends Rule.V5 (map said records.now)) (λ i. IsFirstOffender Rule.V5 (map said records.now) i)) }
 {
     let test = ApartTest::new(alloc, records)?;
-    let found = first_place(alloc, &test, records.len())?;
+    let found = first_index(alloc, &test, records.len())?;
     Ok(found)
 }
 
@@ -37,7 +37,7 @@ struct ApartTest {
 }
 
 impl ApartTest {
-    /// The test for these lines. Fails only when out of memory.
+    /// The test for these lines. Fails only if memory is refused.
     fn new(alloc: Global, records: &[Record]) -> Result<ApartTest, AllocError>
         ensures { IfOk result (λ test. HasPlaced (map said records.now) test) }
     {
@@ -54,7 +54,7 @@ impl ApartTest {
     }
 }
 
-impl PlaceTest for ApartTest {
+impl IndexTest for ApartTest {
     ghost use Rattle.std.specs.Prelude.{◌≡◌, false};
     ghost use Rattle.collate_weight_rules.specs.PlacedWeights.{are_apart_to};
 
@@ -62,15 +62,15 @@ impl PlaceTest for ApartTest {
 
     ghost Holds = { λ test line. are_apart_to test line ≡ false };
 
-    fn holds(&self, alloc: Global, place: usize) -> Result<bool, AllocError> {
-        let primaries = are_apart_to(alloc, &self.primaries, place)?;
-        let secondaries = are_apart_to(alloc, &self.secondaries, place)?;
-        let tertiaries = are_apart_to(alloc, &self.tertiaries, place)?;
+    fn holds(&self, alloc: Global, index: usize) -> Result<bool, AllocError> {
+        let primaries = are_apart_to(alloc, &self.primaries, index)?;
+        let secondaries = are_apart_to(alloc, &self.secondaries, index)?;
+        let tertiaries = are_apart_to(alloc, &self.tertiaries, index)?;
         Ok(!are_all(primaries, secondaries, tertiaries))
     }
 }
 
-/// Whether none of the weights that lines up to one give begins another one. Fails only when out of memory.
+/// Whether none of the weights that lines up to one give begins another one. Fails only if memory is refused.
 fn are_apart_to(alloc: Global, weights: &[(u32, usize)], line: usize) -> Result<bool, AllocError>
     ensures { IfOk result (λ apart. apart ≡ are_weights_apart (weights_to weights.now line)) }
 {
@@ -78,7 +78,7 @@ fn are_apart_to(alloc: Global, weights: &[(u32, usize)], line: usize) -> Result<
     Ok(apart)
 }
 
-/// The weights that lines up to one give, in the order of these. Fails only when out of memory.
+/// The weights that lines up to one give, in the order of these. Fails only if memory is refused.
 fn weights_to(alloc: Global, weights: &[(u32, usize)], line: usize) -> Result<Vec<u32>, AllocError>
     ensures { IfOk result (λ found. found.items ≡ weights_to weights.now line) }
 {
@@ -89,7 +89,7 @@ fn weights_to(alloc: Global, weights: &[(u32, usize)], line: usize) -> Result<Ve
         .collect(alloc)
 }
 
-/// Weights in order, and those that are equal by their lines. Fails only when out of memory.
+/// Weights in order, and those that are equal by their lines. Fails only if memory is refused.
 fn in_order(mut weights: Vec<(u32, usize)>) -> Result<Vec<(u32, usize)>, AllocError>
     ensures { IfOk result (λ sorted. IsPermutation weights.items sorted.items) }
 {

@@ -50,7 +50,7 @@ pub(crate) fn placed_elements(
     Ok(placed)
 }
 
-/// Puts the elements of a line, each with the line, behind others.
+/// Puts the elements of a line, each with the line, after others.
 ///
 /// Errors: `AllocError` where memory is refused.
 fn push_placed(
@@ -79,7 +79,7 @@ pub(crate) fn given_ranges(alloc: Global, lines: &[Record]) -> Result<Vec<Primar
     Ok(ranges)
 }
 
-/// Puts the range of a line, if it has one, behind others.
+/// Puts the range of a line, if it has one, after others.
 ///
 /// Errors: `AllocError` where memory is refused.
 fn push_range(ranges: &mut Vec<PrimaryRange>, line: &Record) -> Result<(), AllocError>

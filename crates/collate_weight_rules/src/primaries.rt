@@ -11,7 +11,7 @@ use crate::given::given_elements;
 use crate::leads::leads_to;
 use collate_lines::record::Record;
 use collate_lines::rule::Rule;
-use collate_rules::places::{PlaceTest, first_place};
+use collate_rules::indices::{IndexTest, first_index};
 use icu_collator_core::weight_rules::{Leads, is_sound_primary};
 use icu_collator_types::elements::Element;
 use std::alloc::{AllocError, Global};
@@ -23,7 +23,7 @@ use std::alloc::{AllocError, Global};
 pub fn first_bad_primary(alloc: Global, records: &[Record]) -> Result<Option<usize>, AllocError>
     ensures { IfOk result (λ found. MatchOption found (NoneOffends Rule.V2 (map said records.now)) (λ i. IsFirstOffender Rule.V2 (map said records.now) i)) }
 {
-    let found = first_place(alloc, &PrimaryTest { records }, records.len())?;
+    let found = first_index(alloc, &PrimaryTest { records }, records.len())?;
     Ok(found)
 }
 
@@ -33,7 +33,7 @@ struct PrimaryTest<'r> {
     records: &'r [Record],
 }
 
-impl PlaceTest for PrimaryTest<'_> {
+impl IndexTest for PrimaryTest<'_> {
     ghost use Rattle.std.specs.Prelude.{◌+◌, length, map, take};
     ghost use Rattle.collate_lines.specs.Record.{said};
     ghost use Rattle.collate_rules.specs.GivenWeights.{BreakPrimaries};
@@ -42,8 +42,8 @@ impl PlaceTest for PrimaryTest<'_> {
 
     ghost Holds = { λ test i. BreakPrimaries (map said test.records.now) (take (i + 1) (map said test.records.now)) };
 
-    fn holds(&self, alloc: Global, place: usize) -> Result<bool, AllocError> {
-        let yes = break_primaries(alloc, self.records, &self.records[..place + 1])?;
+    fn holds(&self, alloc: Global, index: usize) -> Result<bool, AllocError> {
+        let yes = break_primaries(alloc, self.records, &self.records[..index + 1])?;
         Ok(yes)
     }
 }

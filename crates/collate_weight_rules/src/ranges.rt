@@ -15,7 +15,7 @@ use crate::given::{given_elements, given_ranges};
 use crate::leads::leads_to;
 use collate_lines::record::Record;
 use collate_lines::rule::Rule;
-use collate_rules::places::{PlaceTest, first_place};
+use collate_rules::indices::{IndexTest, first_index};
 use icu_collator_core::weight_rules::{Leads, PrimaryRange, is_sound_range};
 use icu_collator_types::elements::Element;
 use std::alloc::{AllocError, Global};
@@ -28,7 +28,7 @@ use std::collections::BTreeSet;
 pub fn first_bad_range(alloc: Global, records: &[Record]) -> Result<Option<usize>, AllocError>
     ensures { IfOk result (λ found. MatchOption found (NoneOffends Rule.V6 (map said records.now)) (λ i. IsFirstOffender Rule.V6 (map said records.now) i)) }
 {
-    let found = first_place(alloc, &RangeTest { records }, records.len())?;
+    let found = first_index(alloc, &RangeTest { records }, records.len())?;
     Ok(found)
 }
 
@@ -38,7 +38,7 @@ struct RangeTest<'r> {
     records: &'r [Record],
 }
 
-impl PlaceTest for RangeTest<'_> {
+impl IndexTest for RangeTest<'_> {
     ghost use Rattle.std.specs.Prelude.{◌+◌, length, map, take};
     ghost use Rattle.collate_lines.specs.Record.{said};
     ghost use Rattle.collate_rules.specs.GivenWeights.{BreakRanges};
@@ -47,8 +47,8 @@ impl PlaceTest for RangeTest<'_> {
 
     ghost Holds = { λ test i. BreakRanges (map said test.records.now) (take (i + 1) (map said test.records.now)) };
 
-    fn holds(&self, alloc: Global, place: usize) -> Result<bool, AllocError> {
-        let yes = break_ranges(alloc, self.records, &self.records[..place + 1])?;
+    fn holds(&self, alloc: Global, index: usize) -> Result<bool, AllocError> {
+        let yes = break_ranges(alloc, self.records, &self.records[..index + 1])?;
         Ok(yes)
     }
 }
@@ -107,7 +107,7 @@ fn are_all_disjoint(alloc: Global, ranges: &[PrimaryRange]) -> Result<bool, Allo
     Ok(are_steps_apart(spans.as_slice()))
 }
 
-/// The first and the last character of ranges. Fails only when out of memory.
+/// The first and the last character of ranges. Fails only if memory is refused.
 fn spans_of(alloc: Global, ranges: &[PrimaryRange]) -> Result<Vec<(char, char)>, AllocError>
     ensures { IfOk result (λ spans. spans.items ≡ map (λ r. (r.first, r.last)) ranges.now) }
 {
@@ -121,12 +121,12 @@ fn spans_of(alloc: Global, ranges: &[PrimaryRange]) -> Result<Vec<(char, char)>,
 fn are_steps_apart(spans: &[(char, char)]) -> bool
     ensures { IsTrue result ↔ ((k : ℕ) (d : ℕ × ℕ) → k + 1 < length spans.now → (slice_index_or spans.now k d).1 < (slice_index_or spans.now (k + 1) d).0) }
 {
-    let mut place = 0;
-    while place + 1 < spans.len() {
-        if spans[place].1 >= spans[place + 1].0 {
+    let mut index = 0;
+    while index + 1 < spans.len() {
+        if spans[index].1 >= spans[index + 1].0 {
             return false;
         }
-        place += 1;
+        index += 1;
     }
     true
 }
@@ -143,7 +143,7 @@ fn are_of_other_leads(
     Ok(have_other_leads(&taken, elements))
 }
 
-/// The leads of ranges. Fails only when out of memory.
+/// The leads of ranges. Fails only if memory is refused.
 fn leads_of(alloc: Global, ranges: &[PrimaryRange]) -> Result<BTreeSet<u8>, AllocError>
     ensures { IfOk result (λ taken. (lead : ℕ) → contains nat_cmp taken lead ≡ list_any (has_lead lead) (map range_of ranges.now)) }
 {

@@ -47,15 +47,15 @@ pub record IsKeyOf (pools : Pools) (backward : Bool) (said : SaidBeside) (key : 
 abbrev pub AreKeysOf : Pools → Bool → List SaidBeside → List (List ℕ × ℕ) → Type 0
 AreKeysOf pools backward saids keys = AllZip (IsKeyOf pools backward) saids keys
 
--- at a place of contexts stand a default word and a unit trie with just these keys and their words
-pub record IsContext (contexts : List ℕ) (place own : ℕ) (keys : List (List ℕ × ℕ)) : Type 0 where
-  pub inside : place + 2 < length contexts
-  pub default_is : default_word contexts place ≡ own
-  pub trie : HasKeys (trie_of contexts place) keys
+-- at an index of contexts stand a default word and a unit trie with just these keys and their words
+pub record IsContext (contexts : List ℕ) (index own : ℕ) (keys : List (List ℕ × ℕ)) : Type 0 where
+  pub inside : index + 2 < length contexts
+  pub default_is : default_word contexts index ≡ own
+  pub trie : HasKeys (trie_of contexts index) keys
 
--- the place, the low byte and the flags of a word
-pub record HasFields (word place low : ℕ) (all_begin one_ends one_holds : Bool) : Type 0 where
-  pub place_is : index_of word ≡ place
+-- the index, the low byte and the flags of a word
+pub record HasFields (word index low : ℕ) (all_begin one_ends one_holds : Bool) : Type 0 where
+  pub index_is : index_of word ≡ index
   pub low_is : word % 2 ^ 8 ≡ low
   pub first : has_flag 9 word ≡ all_begin
   pub second : has_flag 10 word ≡ one_ends

@@ -53,7 +53,7 @@ pub record IsFit (saying : Saying) : Type 0 where
   pub prefixed : saying.prefixes ≢ [] → IsTrue (is_some saying.own)
 
 -- Room for so many elements, and for so many texts beside characters: each of these takes at most 145 units of contexts, and
--- a word names 2 ^ 19 places.
+-- a word names 2 ^ 19 indices.
 pub record HasRoom (pools : Pools) (elements texts : ℕ) : Type 0 where
   pub ces : length pools.ces + elements ≤ 2 ^ 19
   pub ce32s : length pools.ce32s + elements ≤ 2 ^ 19

@@ -6,7 +6,7 @@ use Rattle.icu_collator_types.specs.ElementWords.{has_tag}
 use Rattle.icu_collator_core.specs.Pools.{Pools, elements_of_word, index_of}
 use Rattle.icu_collator_core.specs.UnrecordedWords.{implicit}
 use Rattle.icu_collator_core.specs.WordForms.{is_own_word}
-use Rattle.icu_collator_core.specs.WordPlaces.{has_items}
+use Rattle.icu_collator_core.specs.WordIndices.{has_items}
 
 -- what moves the primary of a range, if a word names that
 abbrev pub offset_named : Pools → ℕ → Option ℕ

@@ -4,7 +4,7 @@ use Rattle.std.specs.List.{find}
 use Rattle.std.specs.Str.{bytes_eq}
 use Rattle.icu_collator_types.specs.declared.elements.Element.{Element}
 
--- what stands beside a character, behind it or before it, in reading order, and the elements that the character has there
+-- what stands beside a character, after it or before it, in reading order, and the elements that the character has there
 pub record SaidBeside : Type 0 where
   pub characters : List ℕ
   pub elements : List Element
@@ -27,7 +27,7 @@ pub record Saying : Type 0 where
 abbrev pub elements_beside : List SaidBeside → List ℕ → Option (List Element)
 elements_beside saids characters = option_map (λ said. said.elements) (find (λ said. bytes_eq said.characters characters) saids)
 
--- the characters behind
+-- the characters after
 abbrev pub texts_beside : List SaidBeside → List (List ℕ)
 texts_beside saids = map (λ said. said.characters) saids
 

@@ -10,7 +10,7 @@ use Rattle.icu_collator_core.specs.Pools.{Pools, elements_of_word, lone_word, pr
 use Rattle.icu_collator_core.specs.PrefixFaults.{IsAmong}
 use Rattle.icu_collator_core.specs.TableMeaning.{digit_by}
 use Rattle.icu_collator_core.specs.WordForms.{IsWord}
-use Rattle.icu_collator_core.specs.WordPlaces.{IsInside}
+use Rattle.icu_collator_core.specs.WordIndices.{IsInside}
 use Rattle.collate_words.specs.Contexts.{HasContext}
 use Rattle.collate_words.specs.OwnWords.{IsOwnWord}
 use Rattle.collate_words.specs.Sayings.{SaidBeside, Saying, elements_beside, texts_backward, texts_beside}

@@ -88,25 +88,25 @@ fn units_of_keys(alloc: Global, keys: &mut Vec<ContextKey>) -> Result<Vec<u16>, 
 }
 
 /// The word of a context of suffixes.
-fn contraction_word(place: usize, flags: SuffixFlags) -> u32
-    requires { place < 2 ^ 19 }
-    ensures fields { HasFields result place 0xc9 flags.all_begin flags.one_ends flags.one_holds }
+fn contraction_word(index: usize, flags: SuffixFlags) -> u32
+    requires { index < 2 ^ 19 }
+    ensures fields { HasFields result index 0xc9 flags.all_begin flags.one_ends flags.one_holds }
     ensures fits { result < 2 ^ 32 }
 {
     let all_begin = u32::from(flags.all_begin) << 9;
     let one_ends = u32::from(flags.one_ends) << 10;
     let one_holds = u32::from(flags.one_holds) << 11;
-    naming(place, all_begin + one_ends + one_holds + CONTRACTION)
+    naming(index, all_begin + one_ends + one_holds + CONTRACTION)
 }
 
 /// The word of a context of prefixes.
-fn prefix_word(place: usize) -> u32
-    requires { place < 2 ^ 19 }
-    ensures place { index_of result ≡ place }
+fn prefix_word(index: usize) -> u32
+    requires { index < 2 ^ 19 }
+    ensures index { index_of result ≡ index }
     ensures low { result % 2 ^ 8 ≡ 0xc8 }
     ensures fits { result < 2 ^ 32 }
 {
-    naming(place, PREFIX)
+    naming(index, PREFIX)
 }
 
 impl Pools {
@@ -136,7 +136,7 @@ impl Pools {
         Ok(keys)
     }
 
-    /// Writes a context, and gives its place.
+    /// Writes a context, and gives its index.
     fn write_context(
         &mut self,
         alloc: Global,
@@ -151,16 +151,16 @@ impl Pools {
         ensures ces { self.new.ces ≡ self.old.ces }
         ensures ce32s { self.new.ce32s ≡ self.old.ce32s }
         ensures size { length self.new.contexts ≤ length self.old.contexts + (2 + 143 * length keys.items) }
-        ensures place { IfOk result (λ place. place ≡ length self.old.contexts) }
-        ensures says { IfOk result (λ place. IsContext self.new.contexts place default (map pair_of keys.items)) }
+        ensures index { IfOk result (λ index. index ≡ length self.old.contexts) }
+        ensures says { IfOk result (λ index. IsContext self.new.contexts index default (map pair_of keys.items)) }
     {
         let units = units_of_keys(alloc, &mut keys)?;
-        let place = self.contexts.len();
+        let index = self.contexts.len();
         append_context(&mut self.contexts, default, units.as_slice())?;
-        Ok(place)
+        Ok(index)
     }
 
-    /// The word of a character with others behind it, over its word alone.
+    /// The word of a character with others after it, over its word alone.
     pub(crate) fn write_suffixes(
         &mut self,
         alloc: Global,
@@ -180,8 +180,8 @@ impl Pools {
             return Ok(own);
         }
         let keys = self.write_keys(alloc, suffixes, false)?;
-        let place = self.write_context(alloc, own, keys)?;
-        Ok(contraction_word(place, flags))
+        let index = self.write_context(alloc, own, keys)?;
+        Ok(contraction_word(index, flags))
     }
 
     /// The word of a character with others before it, over its word where no prefix counts.
@@ -204,7 +204,7 @@ impl Pools {
         }
         values_stay_in_longer_units();
         let keys = self.write_keys(alloc, prefixes, true)?;
-        let place = self.write_context(alloc, behind, keys)?;
-        Ok(prefix_word(place))
+        let index = self.write_context(alloc, behind, keys)?;
+        Ok(prefix_word(index))
     }
 }

@@ -5,7 +5,7 @@ use icu_collator_types::elements::Element;
 /// What stands beside a character, and the elements that it has there.
 #[derive(Clone, Copy)]
 pub struct Beside<'a> {
-    /// The characters behind it or before it, in reading order.
+    /// The characters after it or before it, in reading order.
     pub characters: &'a [char],
     /// The elements of the character with them.
     pub elements: &'a [Element],
@@ -32,7 +32,7 @@ pub struct Entry<'a> {
     pub offset: Option<u64>,
     /// Its value as a digit.
     pub digit: Option<u8>,
-    /// What stands behind it in longer texts.
+    /// What stands after it in longer texts.
     pub suffixes: Vec<Beside<'a>>,
     /// What stands before it in prefixes.
     pub prefixes: Vec<Beside<'a>>,

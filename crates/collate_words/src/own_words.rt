@@ -163,9 +163,9 @@ impl Pools {
         ensures size { length self.new.ce32s ≤ length self.old.ce32s + length elements.now }
         ensures says { IfOk result (λ word. IsOwnWord self.new word (Some elements.now) None) }
     {
-        let place = self.ce32s.len();
+        let index = self.ce32s.len();
         append_words(&mut self.ce32s, elements)?;
-        Ok(naming(place, ((elements.len() as u32) << 8) + EXPANSION_OF_WORDS))
+        Ok(naming(index, ((elements.len() as u32) << 8) + EXPANSION_OF_WORDS))
     }
 
     /// The word of elements that are listed as bits.
@@ -179,10 +179,10 @@ impl Pools {
         ensures size { length self.new.ces ≤ length self.old.ces + length elements.now }
         ensures says { IfOk result (λ word. IsOwnWord self.new word (Some elements.now) None) }
     {
-        let place = self.ces.len();
+        let index = self.ces.len();
         append_bits(&mut self.ces, elements)?;
         Ok(naming(
-            place,
+            index,
             ((elements.len() as u32) << 8) + EXPANSION_OF_ELEMENTS,
         ))
     }
@@ -221,9 +221,9 @@ impl Pools {
         ensures size { length self.new.ces ≤ length self.old.ces + 1 }
         ensures says { IfOk result (λ word. IsOwnWord self.new word None (Some bits)) }
     {
-        let place = self.ces.len();
+        let index = self.ces.len();
         self.ces.push(bits)?;
-        Ok(naming(place, OFFSET))
+        Ok(naming(index, OFFSET))
     }
 
     /// The word of a character alone: that of its elements, else of its range, else of what its code point gives.
@@ -257,8 +257,8 @@ impl Pools {
         ensures size { length self.new.ce32s ≤ length self.old.ce32s + 1 }
         ensures says { IfOk result (λ word. IsDigitOver self.new word value own) }
     {
-        let place = self.ce32s.len();
+        let index = self.ce32s.len();
         self.ce32s.push(own)?;
-        Ok(naming(place, (u32::from(value) << 8) + DIGIT))
+        Ok(naming(index, (u32::from(value) << 8) + DIGIT))
     }
 }

@@ -1,11 +1,11 @@
-//! The lists that words name places in, as they grow.
+//! The lists that words name indices in, as they grow.
 
 ghost use Rattle.std.specs.Prelude.{◌≡◌, ◌^◌, ◌+◌, ◌*◌, ◌<◌, [], length};
 
 use std::alloc::Global;
 use std::marker::Model;
 
-/// The lists that words name places in. A contract sees them as lists of numbers.
+/// The lists that words name indices in. A contract sees them as lists of numbers.
 #[derive(Drop)]
 pub struct Pools {
     /// Elements of 64 bits, and what moves the primaries of ranges.
@@ -55,11 +55,11 @@ impl Pools {
     }
 }
 
-/// The word that names a place in a list, with what stands below the place.
-pub(crate) fn naming(place: usize, fields: u32) -> u32
-    requires room { place < 2 ^ 19 }
+/// The word that names an index in a list, with what stands below the index.
+pub(crate) fn naming(index: usize, fields: u32) -> u32
+    requires room { index < 2 ^ 19 }
     requires low { fields < 2 ^ 13 }
-    ensures { result ≡ place * 2 ^ 13 + fields }
+    ensures { result ≡ index * 2 ^ 13 + fields }
 {
-    ((place as u32) << 13) + fields
+    ((index as u32) << 13) + fields
 }

@@ -16,7 +16,7 @@ use std::alloc::{AllocError, Global};
 impl Pools {
     /// The word of a character: it says just what the entry does. All that it names is written at the ends of the
     /// lists: of elements and words at most as many as it has elements and one, of contexts at most 145 units a text
-    /// beside it. Fails only when out of memory.
+    /// beside it. Fails only if memory is refused.
     pub fn write_entry(&mut self, alloc: Global, entry: &Entry<'_>) -> Result<u32, AllocError>
         requires fit { IsFit (saying_of entry.now) }
         requires room { HasRoom self.old (element_count (saying_of entry.now)) (text_count (saying_of entry.now)) }

@@ -60,7 +60,7 @@ fn print_rows<S: Alter>(rt: &HostRuntime, rows: &mut Rows<'_, S>) -> Result<(), 
     Ok(())
 }
 
-/// Prints the names that a query answers for the values of its parameters, behind a heading.
+/// Prints the names that a query answers for the values of its parameters, after a heading.
 fn print_names<S: Alter>(
     rt: &HostRuntime,
     book: &mut Connection<S>,

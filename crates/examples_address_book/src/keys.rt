@@ -41,7 +41,7 @@ pub fn collator_over<P: CollatorProvider>(
 
 /// The sort key of a name.
 ///
-/// Errors: want of memory, as the database names it.
+/// Errors: refused memory, as the database names it.
 pub fn key_of(alloc: Global, collator: &CollatorBorrowed<'_>, name: &str) -> Result<Vec<u8>, Error>
     ensures { IfOk result (λ key. key.items ≡ key_by collator.now (utf8_chars name.now)) }
 {
@@ -63,7 +63,7 @@ pub struct Keys {
 
 /// Both keys of a name.
 ///
-/// Errors: want of memory, as the database names it.
+/// Errors: refused memory, as the database names it.
 pub fn keys_of(alloc: Global, keying: &Keying<'_>, name: &str) -> Result<Keys, Error>
     ensures sort_key { IfOk result (λ keys. keys.sort_key.items ≡ key_by keying.now.all (utf8_chars name.now)) }
     ensures letters { IfOk result (λ keys. keys.letters.items ≡ key_by keying.now.letters (utf8_chars name.now)) }

@@ -17,7 +17,7 @@ pub fn index_of(alloc: Global, records: &[u8], names: &[u8]) -> anyhow::Result<I
     Ok(index)
 }
 
-/// The names of an index in order, each with a LF behind it.
+/// The names of an index in order, each with a LF after it.
 pub fn in_order(alloc: Global, index: &Index) -> Result<Vec<u8>, AllocError> {
     let mut lines = Vec::new(alloc);
     for name in index.list() {

@@ -22,7 +22,7 @@ pub record Mapping : Type 0 where
   pub mapping : List ℕ
   pub is_composed : Bool
 
--- the elements of a text behind a prefix
+-- the elements of a text after a prefix
 pub record Recorded : Type 0 where
   pub prefix : List ℕ
   pub text : List ℕ
@@ -36,7 +36,7 @@ pub record Digit : Type 0 where
 -- a lead byte, and the one that takes its place
 pub record Reordered : Type 0 where
   pub lead : ℕ
-  pub place : ℕ
+  pub index : ℕ
 
 -- What the lines of a file say. Of several lines for one key the first counts.
 pub record Table : Type 0 where
@@ -124,14 +124,14 @@ canonical_of table =
       pair = pair_of table.mappings;
     }
 
--- the elements of a text behind a prefix
+-- the elements of a text after a prefix
 unfoldable pub recorded_of : List Recorded → List ℕ → List ℕ → Option (List Element)
 recorded_of records prefix text =
     first_found
     (λ r. cond (is_same_text r.prefix prefix && is_same_text r.text text) (Some r.elements) None)
     records
 
--- whether the lead byte of primaries is left out of keys behind the same
+-- whether the lead byte of primaries is left out of keys after the same
 abbrev pub is_compressible_in : Table → ℕ → Bool
 is_compressible_in table lead = (lead == 0xfe) || list_any (λ other. other == lead) table.compressible_leads
 
@@ -164,5 +164,5 @@ collation_of table =
       backward = table.backward;
       groups = table.groups;
       reordered =
-          with_lead (λ lead. unwrap_or (first_found (λ r. cond (r.lead == lead) (Some r.place) None) table.reordering) lead);
+          with_lead (λ lead. unwrap_or (first_found (λ r. cond (r.lead == lead) (Some r.index) None) table.reordering) lead);
     }

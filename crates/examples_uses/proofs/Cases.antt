@@ -59,7 +59,7 @@ pub ao_is_ao_in_upper_case : order with_graves (at_strength Secondary) (codes "a
 unfolding computing
 ao_is_ao_in_upper_case = refl
 
--- So upper case doesn't stand in the way of an accent behind it.
+-- So upper case doesn't stand in the way of an accent after it.
 pub upper_ao_is_below_ao_grave : order with_graves (at_strength Secondary) (codes "Ao") (codes "aò") ≡ Less
 unfolding computing
 upper_ao_is_below_ao_grave = refl

@@ -7,7 +7,7 @@ use Rattle.examples_uses.specs.Asked.{at_strength, order}
 use Rattle.examples_uses.specs.Letters.{letters}
 use Rattle.examples_uses.proofs.WorkedComputing.{computing}
 
--- "abc" behind all single letters
+-- "abc" after all single letters
 abbrev with_abc : Lines
 with_abc = letters ++ codes "w 0061 0062 0063 ; [2B800000.0500.0.0500.0]" ∷ []
 
@@ -21,7 +21,7 @@ abbrev with_c_acute_and_cha : Lines
 with_c_acute_and_cha =
     letters ++ codes "w 0063 0301 ; [2A700000.0500.0.0500.0]" ∷ codes "w 0063 0068 0061 ; [2B900000.0500.0.0500.0]" ∷ []
 
--- An acute behind "h" doesn't join the "c" in front of the "h", though a longer text was looked for there.
+-- An acute after "h" doesn't join the "c" in front of the "h", though a longer text was looked for there.
 pub ch_with_marks_is_ch : order with_c_acute_and_cha (at_strength Primary) (codes "cḥ́") (codes "ch") ≡ Equal
 unfolding computing
 ch_with_marks_is_ch = refl

@@ -32,7 +32,7 @@ pub identical_key_of_a : key letters (at_strength Identical) (codes "a") ≡ hex
 unfolding computing
 identical_key_of_a = refl
 
--- Characters are written as differences, ideographs in another way than those behind.
+-- Characters are written as differences, ideographs in another way than those after it.
 pub characters_behind_the_last_ideograph :
     last_bytes 7 (key letters (at_strength Identical) (0x9fff ∷ 0x61 ∷ [])) ≡ hex (codes "01fca4950688a8")
 unfolding computing
@@ -132,19 +132,19 @@ pub quaternary_key_of_ac : key with_punctuation (at_strength Quaternary) (codes 
 unfolding computing
 quaternary_key_of_ac = refl
 
--- Behind a prefix of three letters "e" has another primary.
+-- After a prefix of three letters "e" has another primary.
 pub key_behind_a_prefix : key with_e_behind_abc (at_strength Primary) (codes "abce") ≡ hex (codes "2a102a202a302aa0")
 unfolding computing
 key_behind_a_prefix = refl
 
--- Besides, "e" behind "c" alone is a letter between "e" and "h". Behind "bc" only that prefix is there.
+-- Besides, "e" after "c" alone is a letter between "e" and "h". After "bc" only that prefix is there.
 pub key_behind_the_shorter_prefix :
     key with_two_prefixes (at_strength Primary) (codes "bce")
     ≡ hex (codes "2a202a302a70")
 unfolding computing
 key_behind_the_shorter_prefix = refl
 
--- A compressible lead that the file sets is left out behind the same lead.
+-- A compressible lead that the file sets is left out after the same lead.
 pub key_under_a_compressible_lead :
     key (letters ++ codes "set compress 2A" ∷ []) (at_strength Primary) (codes "ab")
     ≡ hex (codes "2a1020")

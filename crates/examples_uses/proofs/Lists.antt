@@ -18,7 +18,7 @@ pub names_letter_by_letter : list_of letters (at_strength Primary) arrived ≡ c
 unfolding computing
 names_letter_by_letter = refl
 
--- "ch" as a letter behind "c"
+-- "ch" as a letter after "c"
 abbrev with_ch : Lines
 with_ch = letters ++ codes "w 0063 0068 ; [2A400000.0500.0.0500.0]" ∷ []
 

@@ -62,7 +62,7 @@ pub zeros_elements : elements with_digits (by_value Primary) (codes "000") ≡ p
 unfolding computing
 zeros_elements = refl
 
--- The last number of one byte behind the lead, and the first of two.
+-- The last number of one byte after the lead, and the first of two.
 pub elements_of_73 : elements with_digits (by_value Primary) (codes "73") ≡ primary_element 0x104b0000 ∷ []
 unfolding computing
 elements_of_73 = refl

@@ -1,4 +1,4 @@
--- Characters that have other elements behind certain characters.
+-- Characters that have other elements after certain characters.
 use Rattle.std.specs.Prelude.{◌≡◌, [], ◌∷◌, refl, codes}
 use Rattle.std.specs.declared.cmp.Ordering.TheVariants.{Less, Greater}
 use Rattle.icu_collator_types.specs.declared.options.Strength.TheVariants.{Primary, Tertiary}
@@ -6,12 +6,12 @@ use Rattle.examples_uses.specs.Asked.{at_strength, order, list_of}
 use Rattle.examples_uses.specs.Letters.{letters, with_c_behind_ab, with_e_behind_abc, with_two_prefixes}
 use Rattle.examples_uses.proofs.WorkedComputing.{computing}
 
--- Behind "ab" the letter "c" is above "e".
+-- After "ab" the letter "c" is above "e".
 pub abc_is_above_abe : order with_c_behind_ab (at_strength Tertiary) (codes "abc") (codes "abe") ≡ Greater
 unfolding computing
 abc_is_above_abe = refl
 
--- Behind "abc" the letter "e" is above "h".
+-- After "abc" the letter "e" is above "h".
 pub abce_is_above_abch : order with_e_behind_abc (at_strength Tertiary) (codes "abce") (codes "abch") ≡ Greater
 unfolding computing
 abce_is_above_abch = refl
@@ -21,7 +21,7 @@ pub abce_is_above_abch_by_longest : order with_two_prefixes (at_strength Tertiar
 unfolding computing
 abce_is_above_abch_by_longest = refl
 
--- Behind "bc" only the short prefix is there.
+-- After "bc" only the short prefix is there.
 pub bce_is_below_bch : order with_two_prefixes (at_strength Tertiary) (codes "bce") (codes "bch") ≡ Less
 unfolding computing
 bce_is_below_bch = refl

@@ -33,7 +33,7 @@ pub a_space_c_is_below_stopped : order with_punctuation (shifted_at Quaternary) 
 unfolding computing
 a_space_c_is_below_stopped = refl
 
--- An accent behind a space counts nowhere with it.
+-- An accent after a space counts nowhere with it.
 pub accent_behind_a_space_counts_nowhere :
     order with_punctuation (shifted_at Quaternary) (codes "a ́c") (codes "a c") ≡ Equal
 unfolding computing

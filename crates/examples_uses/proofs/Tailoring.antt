@@ -32,7 +32,7 @@ pub others_stay : order with_a_moved (at_strength Tertiary) (codes "b") (codes "
 unfolding computing
 others_stay = refl
 
--- A record behind a prefix is replaced by one behind the same prefix: "c" behind "ab" is below "e" again,
+-- A record after a prefix is replaced by one after the same prefix: "c" after "ab" is below "e" again,
 pub replaced_behind_a_prefix :
     order (with_c_behind_ab ++ codes "t 0061 0062 | 0063 ; [2A180000.0500.0.0500.0]" ∷ [])
     (at_strength Tertiary)

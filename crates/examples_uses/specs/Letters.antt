@@ -41,14 +41,14 @@ with_digits =
 abbrev pub with_ideographs : Lines
 with_ideographs = letters ++ codes "range 4E00 9FFF E0020200 1" ∷ []
 
--- "c" behind "ab" as a letter between "e" and "h"
+-- "c" after "ab" as a letter between "e" and "h"
 abbrev pub with_c_behind_ab : Lines
 with_c_behind_ab = letters ++ codes "w 0061 0062 | 0063 ; [2A600000.0500.0.0500.0]" ∷ []
 
--- "e" behind "abc" as a letter between "h" and "l"
+-- "e" after "abc" as a letter between "h" and "l"
 abbrev pub with_e_behind_abc : Lines
 with_e_behind_abc = letters ++ codes "w 0061 0062 0063 | 0065 ; [2AA00000.0500.0.0500.0]" ∷ []
 
--- besides, "e" behind "c" alone as a letter between "e" and "h"
+-- besides, "e" after "c" alone as a letter between "e" and "h"
 abbrev pub with_two_prefixes : Lines
 with_two_prefixes = with_e_behind_abc ++ codes "w 0063 | 0065 ; [2A700000.0500.0.0500.0]" ∷ []

@@ -1,7 +1,7 @@
 //! Maps from code points to values: building a trie, and reading it.
 ghost use Rattle.std.specs.Prelude.{◌≡◌, ◌≢◌, ◌≤◌, ℕ, Some, true, IfOk};
 ghost use Rattle.icu_collections.specs.CodePointMaps.{mapped};
-ghost use Rattle.icu_collections.specs.Places.{value_at};
+ghost use Rattle.icu_collections.specs.Slots.{value_at};
 
 use icu_collections::codepointtrie::{
     CodePointTrie, CodePointTrieBuildError, CodePointTrieBuilder, TrieType,

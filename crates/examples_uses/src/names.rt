@@ -64,8 +64,8 @@ pub fn count_equal(index: &Index, name: &[u8]) -> Result<usize, AllocError>
 pub fn count_between(index: &Index, first: &[u8], last: &[u8]) -> Result<usize, AllocError>
     ensures { IfOk result (λ count. count ≡ length (names_between (order_of index.now) first.now last.now (sorted_names index.now))) }
 {
-    let places = index.between(first, last)?;
-    Ok(places.end - places.start)
+    let ranks = index.between(first, last)?;
+    Ok(ranks.end - ranks.start)
 }
 
 /// Takes a name out of the index; whether it was there. It takes no memory.
@@ -77,7 +77,7 @@ pub fn take_out(index: &mut Index, name: &[u8]) -> bool
     index.remove(name).is_ok()
 }
 
-/// Puts a records file in the place of the index's own, the names as they are, and tells whether it was taken.
+/// Puts a records file in the rank of the index's own, the names as they are, and tells whether it was taken.
 pub fn adopt(index: &mut Index, file: &[u8]) -> bool
     ensures { MatchBool result (index.new ≡ reloaded (records_of file.now) index.old) (index.new ≡ index.old) }
 {

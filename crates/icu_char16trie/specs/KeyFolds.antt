@@ -4,7 +4,7 @@ use Rattle.std.specs.Int.{cast_signed, w32}
 use Rattle.std.specs.List.{Contains}
 use Rattle.icu_char16trie.specs.UnitGrammar.{IsUnitTrie, IsWithin}
 use Rattle.icu_char16trie.specs.UnitMaps.{MapsKey, at_node}
-use Rattle.icu_char16trie.specs.UnitPartSteps.{part_step, part_place}
+use Rattle.icu_char16trie.specs.UnitPartSteps.{part_step, part_index}
 use Rattle.icu_char16trie.specs.UnitReadingOrder.{extended}
 use Rattle.icu_char16trie.specs.declared.reader.folds.Job.{Job}
 use Rattle.icu_char16trie.specs.declared.reader.part.Part.{Part}
@@ -39,12 +39,12 @@ pub data Spells (units : List ℕ) : Part → List ℕ → ℤ → Type 0 where
 -- how much is left to be read: three times less for a part that begins later
 unfoldable pub weight : {A : Type 0} → ℕ → List (Job A) → ℕ
 weight size [] = 0
-weight size (job ∷ rest) = 3 ^ (size - part_place job.part) + weight size rest
+weight size (job ∷ rest) = 3 ^ (size - part_index job.part) + weight size rest
 
 -- the same of a part, if there is one
 abbrev pub part_weight : ℕ → Option Part → ℕ
 part_weight size None = 0
-part_weight size (Some part) = 3 ^ (size - part_place part)
+part_weight size (Some part) = 3 ^ (size - part_index part)
 
 -- a list has grown by just these items
 abbrev pub GrowsBy : {X : Type 0} → (X → Type 0) → List X → List X → Type 0
@@ -86,7 +86,7 @@ module _ {A : Type 0} (onward : A → ℕ → A) where
   -- a job was taken up, or its part can't be read
   abbrev pub HasTakenUp : List ℕ → Job A → List (Job A) → List (Job A) → List (A × ℤ) → List (A × ℤ) → Bool → Type 0
   HasTakenUp units job before after read now true = (step : Step) × IsTakenUp units job step before after read now
-  HasTakenUp units job before after read now false = (place : ℕ) × (part_step units job.part ≡ Err place)
+  HasTakenUp units job before after read now false = (index : ℕ) × (part_step units job.part ≡ Err index)
 
   -- all that the first job comes to was read, or some of it can't be
   abbrev pub HasEnded : List ℕ → Job A → List (A × ℤ) → Bool → Type 0

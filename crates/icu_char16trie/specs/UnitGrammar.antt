@@ -23,31 +23,31 @@ pub data GrammarPart : Type 0 where
 -- the units keep the grammar there: all that can be reached is read to its end and within the units, and
 -- the units of a branch rise, those of its first half below the unit at which it is halved
 pub data IsSound (units : List ℕ) : GrammarPart → Type 0 where
-  sound_end : (place value : ℕ) → IsNode units place (Some value) None → IsSound units (spot (at_node place))
-  sound_node : (place : ℕ) (value : Option ℕ) (next : State) → IsNode units place value (Some next) → IsSound units (spot (at_state next))
-      → IsSound units (spot (at_node place))
-  sound_run : (run : Match) (unit : ℕ) → slice_get units run.place ≡ Some unit → 1 < run.left
-      → IsSound units (spot (at_state (state.Match (record { left = run.left - 1; place = run.place + 1 }))))
+  sound_end : (index value : ℕ) → IsNode units index (Some value) None → IsSound units (spot (at_node index))
+  sound_node : (index : ℕ) (value : Option ℕ) (next : State) → IsNode units index value (Some next) → IsSound units (spot (at_state next))
+      → IsSound units (spot (at_node index))
+  sound_run : (run : Match) (unit : ℕ) → slice_get units run.index ≡ Some unit → 1 < run.left
+      → IsSound units (spot (at_state (state.Match (record { left = run.left - 1; index = run.index + 1 }))))
       → IsSound units (spot (at_state (state.Match run)))
-  sound_run_end : (run : Match) (unit : ℕ) → slice_get units run.place ≡ Some unit → run.left ≤ 1
-      → IsSound units (spot (at_node (run.place + 1))) → IsSound units (spot (at_state (state.Match run)))
+  sound_run_end : (run : Match) (unit : ℕ) → slice_get units run.index ≡ Some unit → run.left ≤ 1
+      → IsSound units (spot (at_node (run.index + 1))) → IsSound units (spot (at_state (state.Match run)))
   sound_branch : (branch : Branch) → IsSound units (within branch 0 0x10000) → IsSound units (spot (at_state (state.Branch branch)))
-  sound_last : (branch : Branch) (low high unit : ℕ) → branch.count ≤ 1 → slice_get units branch.place ≡ Some unit
-      → low ≤ unit → unit < high → IsSound units (spot (at_node (branch.place + 1))) → IsSound units (within branch low high)
+  sound_last : (branch : Branch) (low high unit : ℕ) → branch.count ≤ 1 → slice_get units branch.index ≡ Some unit
+      → low ≤ unit → unit < high → IsSound units (spot (at_node (branch.index + 1))) → IsSound units (within branch low high)
   sound_value : (branch : Branch) (low high value : ℕ) (entry : Entry) → 1 < branch.count → branch.count ≤ 5
-      → entry_at units branch.place ≡ Some entry → entry_target units entry ≡ Some (Value value) → low ≤ entry.unit → entry.unit < high
-      → IsSound units (within (record { count = branch.count - 1; place = entry.number.end }) (entry.unit + 1) high)
+      → entry_at units branch.index ≡ Some entry → entry_target units entry ≡ Some (Value value) → low ≤ entry.unit → entry.unit < high
+      → IsSound units (within (record { count = branch.count - 1; index = entry.number.end }) (entry.unit + 1) high)
       → IsSound units (within branch low high)
-  sound_jump : (branch : Branch) (low high place : ℕ) (entry : Entry) → 1 < branch.count → branch.count ≤ 5
-      → entry_at units branch.place ≡ Some entry → entry_target units entry ≡ Some (Node place) → low ≤ entry.unit → entry.unit < high
-      → IsSound units (spot (at_node place))
-      → IsSound units (within (record { count = branch.count - 1; place = entry.number.end }) (entry.unit + 1) high)
+  sound_jump : (branch : Branch) (low high index : ℕ) (entry : Entry) → 1 < branch.count → branch.count ≤ 5
+      → entry_at units branch.index ≡ Some entry → entry_target units entry ≡ Some (Node index) → low ≤ entry.unit → entry.unit < high
+      → IsSound units (spot (at_node index))
+      → IsSound units (within (record { count = branch.count - 1; index = entry.number.end }) (entry.unit + 1) high)
       → IsSound units (within branch low high)
-  sound_halves : (branch : Branch) (low high middle place : ℕ) (jump : Number) → 5 < branch.count
-      → slice_get units branch.place ≡ Some middle → delta units (branch.place + 1) ≡ Some jump → landing units jump ≡ Some place
+  sound_halves : (branch : Branch) (low high middle index : ℕ) (jump : Number) → 5 < branch.count
+      → slice_get units branch.index ≡ Some middle → delta units (branch.index + 1) ≡ Some jump → landing units jump ≡ Some index
       → low < middle → middle < high
-      → IsSound units (within (record { count = branch.count / 2; place = place }) low middle)
-      → IsSound units (within (record { count = branch.count - branch.count / 2; place = jump.end }) middle high)
+      → IsSound units (within (record { count = branch.count / 2; index = index }) low middle)
+      → IsSound units (within (record { count = branch.count - branch.count / 2; index = jump.end }) middle high)
       → IsSound units (within branch low high)
 
 -- units that keep the grammar: none, or those whose first node has no value

@@ -1,4 +1,4 @@
--- How sorted keys and their values lie in units: a node is the units from its place on, so that it
+-- How sorted keys and their values lie in units: a node is the units from its index on, so that it
 -- means the same wherever it stands.
 use Rattle.std.specs.Prelude.{◌≡◌, ℕ, ℤ, ◌+◌, ◌/◌, ◌<◌, ◌≤◌, List, [], ◌∷◌, ◌++◌, length, drop}
 use Rattle.std.specs.Int.{cast_signed, w32}

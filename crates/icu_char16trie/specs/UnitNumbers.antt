@@ -1,4 +1,4 @@
--- The numbers in the units of a unit trie, and its nodes. Each is read at a place, and there is
+-- The numbers in the units of a unit trie, and its nodes. Each is read at an index, and there is
 -- none where the units end before.
 use Rattle.std.specs.Prelude.{ℕ, ◌+◌, ◌-◌, ◌*◌, ◌/◌, ◌^◌, ltb, if◌then◌else◌, List, length, slice_get, Option, Some, None}
 use Rattle.icu_char16trie.specs.declared.cells.Number.{Number}
@@ -10,30 +10,30 @@ after (Some x) f = f x
 
 -- one unit more, below a number of high bits
 abbrev pub with_unit : List ℕ → ℕ → ℕ → Option Number
-with_unit units high place = after (slice_get units place) (λ low. Some (record { value = high * 2 ^ 16 + low; end = place + 1 }))
+with_unit units high index = after (slice_get units index) (λ low. Some (record { value = high * 2 ^ 16 + low; end = index + 1 }))
 
 -- two units, the high one first
 abbrev pub two_units : List ℕ → ℕ → Option Number
-two_units units place = after (slice_get units place) (λ high. with_unit units high (place + 1))
+two_units units index = after (slice_get units index) (λ high. with_unit units high (index + 1))
 
--- a final value or a jump, its lead without the highest bit, which ends before the place
+-- a final value or a jump, its lead without the highest bit, which ends before the index
 abbrev pub final_number : List ℕ → ℕ → ℕ → Option Number
-final_number units lead place =
-    if ltb lead 0x4000 then Some (record { value = lead; end = place })
-    else (if ltb lead 0x7fff then with_unit units (lead - 0x4000) place else two_units units place)
+final_number units lead index =
+    if ltb lead 0x4000 then Some (record { value = lead; end = index })
+    else (if ltb lead 0x7fff then with_unit units (lead - 0x4000) index else two_units units index)
 
--- an intermediate value, whose lead of 40 to 7fff ends before the place
+-- an intermediate value, whose lead of 40 to 7fff ends before the index
 abbrev pub intermediate_number : List ℕ → ℕ → ℕ → Option Number
-intermediate_number units lead place =
-    if ltb lead 0x4040 then Some (record { value = lead / 2 ^ 6 - 1; end = place })
-    else (if ltb lead 0x7fc0 then with_unit units (lead / 2 ^ 6 - 0x101) place else two_units units place)
+intermediate_number units lead index =
+    if ltb lead 0x4040 then Some (record { value = lead / 2 ^ 6 - 1; end = index })
+    else (if ltb lead 0x7fc0 then with_unit units (lead / 2 ^ 6 - 0x101) index else two_units units index)
 
 -- how far a branch jumps to its first half
 abbrev pub delta : List ℕ → ℕ → Option Number
-delta units place = after (slice_get units place) (λ lead.
-    if ltb lead 0xfc00 then Some (record { value = lead; end = place + 1 })
-    else (if ltb lead 0xffff then with_unit units (lead - 0xfc00) (place + 1) else two_units units (place + 1)))
+delta units index = after (slice_get units index) (λ lead.
+    if ltb lead 0xfc00 then Some (record { value = lead; end = index + 1 })
+    else (if ltb lead 0xffff then with_unit units (lead - 0xfc00) (index + 1) else two_units units (index + 1)))
 
--- the place after a jump, which stays within the units
+-- the index after a jump, which stays within the units
 abbrev pub landing : List ℕ → Number → Option ℕ
 landing units jump = if ltb (jump.end + jump.value) (length units) then Some (jump.end + jump.value) else None

@@ -2,7 +2,7 @@
 use Rattle.std.specs.Prelude.{◌≡◌, ℕ, ℤ, Bool, true, ◌&&◌, ◌++◌, ◌<◌, ◌≤◌, ◌⊎◌, List, [], ◌∷◌, slice_get, length, map, reverse, Option, Some, None, Ok, Err, codes}
 use Rattle.std.specs.Fmt.{decimal}
 use Rattle.std.specs.Int.{cast_signed, w32}
-use Rattle.icu_char16trie.specs.UnitPartSteps.{part_step, part_place}
+use Rattle.icu_char16trie.specs.UnitPartSteps.{part_step, part_index}
 use Rattle.icu_char16trie.specs.declared.reader.part.Part.{Part}
 use Rattle.icu_char16trie.specs.declared.reader.part.Part.TheVariants as part
 use Rattle.icu_char16trie.specs.declared.reader.part.Step.{Step}
@@ -51,11 +51,11 @@ pub record IsTaken (units : List ℕ) (limit : ℕ) (key : List ℕ) (part : Par
   pub jobs : after ≡ jobs_of key step ++ before
   pub pairs : now ≡ read ++ pairs_of key step
 
--- reading stops at the place: nothing can be read there, or a key would be too long
+-- reading stops at the index: nothing can be read there, or a key would be too long
 abbrev pub IsStuck : List ℕ → ℕ → List ℕ → Part → ℕ → Type 0
-IsStuck units limit key part place =
-    (part_step units part ≡ Err place)
-    ⊎ ((step : Step) × (part_step units part ≡ Ok step) × (HasRoom limit key step.unit → ⊥) × (place ≡ part_place part))
+IsStuck units limit key part index =
+    (part_step units part ≡ Err index)
+    ⊎ ((step : Step) × (part_step units part ≡ Ok step) × (HasRoom limit key step.unit → ⊥) × (index ≡ part_index part))
 
 -- the parts are read to their ends, and spell the keys and values in this order
 pub data Reads (units : List ℕ) (limit : ℕ) : List Job → List (List ℕ × ℤ) → Type 0 where
@@ -64,11 +64,11 @@ pub data Reads (units : List ℕ) (limit : ℕ) : List Job → List (List ℕ ×
       → HasRoom limit key step.unit → Reads units limit (jobs_of key step ++ rest) pairs
       → Reads units limit ((key, part) ∷ rest) (pairs_of key step ++ pairs)
 
--- reading the parts stops at the place
+-- reading the parts stops at the index
 pub data StopsIn (units : List ℕ) (limit : ℕ) : List Job → ℕ → Type 0 where
-  here : (key : List ℕ) (part : Part) (rest : List Job) (place : ℕ) → IsStuck units limit key part place → StopsIn units limit ((key, part) ∷ rest) place
-  beyond : (key : List ℕ) (part : Part) (step : Step) (rest : List Job) (place : ℕ) → part_step units part ≡ Ok step
-      → HasRoom limit key step.unit → StopsIn units limit (jobs_of key step ++ rest) place → StopsIn units limit ((key, part) ∷ rest) place
+  here : (key : List ℕ) (part : Part) (rest : List Job) (index : ℕ) → IsStuck units limit key part index → StopsIn units limit ((key, part) ∷ rest) index
+  beyond : (key : List ℕ) (part : Part) (step : Step) (rest : List Job) (index : ℕ) → part_step units part ≡ Ok step
+      → HasRoom limit key step.unit → StopsIn units limit (jobs_of key step ++ rest) index → StopsIn units limit ((key, part) ∷ rest) index
 
 -- what a task is to read
 abbrev pub job_of : Task → Job
@@ -98,9 +98,9 @@ HasTested units limit jobs test all = (pairs : List (List ℕ × ℤ)) × Reads 
 -- where reading stops: at a value of the first node, or in what the first node leads to
 pub data StopsAt (units : List ℕ) (limit : ℕ) : ℕ → Type 0 where
   root_valued : (lead : ℕ) → slice_get units 0 ≡ Some lead → 0x40 ≤ lead → StopsAt units limit 0
-  in_parts : (lead place : ℕ) → slice_get units 0 ≡ Some lead → lead < 0x40 → StopsIn units limit (([], part.Node 0) ∷ []) place → StopsAt units limit place
+  in_parts : (lead index : ℕ) → slice_get units 0 ≡ Some lead → lead < 0x40 → StopsIn units limit (([], part.Node 0) ∷ []) index → StopsAt units limit index
 
 -- a refusal as it is printed
 abbrev pub error_text : ReadUnitsError → List ℕ
-error_text (BadUnits place) = codes "bad units at " ++ decimal place
+error_text (BadUnits index) = codes "bad units at " ++ decimal index
 error_text Memory = codes "out of memory"

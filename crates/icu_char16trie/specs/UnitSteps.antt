@@ -15,9 +15,9 @@ use Rattle.icu_char16trie.specs.declared.TrieResult.TheVariants.{NoValue, Interm
 
 -- the half of a branch of over five units in which the unit is looked for
 abbrev pub half_of : List ℕ → ℕ → Branch → Option Branch
-half_of units unit branch = after (slice_get units branch.place) (λ middle. after (delta units (branch.place + 1)) (λ jump.
-    if ltb unit middle then after (landing units jump) (λ place. Some (record { count = branch.count / 2; place = place }))
-    else Some (record { count = branch.count - branch.count / 2; place = jump.end })))
+half_of units unit branch = after (slice_get units branch.index) (λ middle. after (delta units (branch.index + 1)) (λ jump.
+    if ltb unit middle then after (landing units jump) (λ index. Some (record { count = branch.count / 2; index = index }))
+    else Some (record { count = branch.count - branch.count / 2; index = jump.end })))
 
 -- the part of at most five units in which the unit is looked for, within this number of halvings
 unfoldable pub small_part : List ℕ → ℕ → ℕ → Branch → Option Branch
@@ -28,29 +28,29 @@ small_part units unit (suc halvings) branch =
 
 -- a branch unit before the last, and the number after it
 abbrev pub entry_at : List ℕ → ℕ → Option Entry
-entry_at units place = after (slice_get units place) (λ unit. after (slice_get units (place + 1)) (λ lead.
-    after (final_number units (lead % 0x8000) (place + 2)) (λ number.
+entry_at units index = after (slice_get units index) (λ unit. after (slice_get units (index + 1)) (λ lead.
+    after (final_number units (lead % 0x8000) (index + 2)) (λ number.
     Some (record { unit = unit; is_value = leb 0x8000 lead; number = number }))))
 
 -- the number of a branch unit is a value, or a jump to a node
 abbrev pub entry_target : List ℕ → Entry → Option Target
 entry_target units entry =
     if entry.is_value then Some (Value entry.number.value)
-    else after (landing units entry.number) (λ place. Some (Node place))
+    else after (landing units entry.number) (λ index. Some (Node index))
 
 -- what the unit leads to among this number of entries, the last unit and the node after it
 unfoldable pub target_in : List ℕ → ℕ → ℕ → ℕ → Option Target
-target_in units unit zero place = after (slice_get units place) (λ last. if last == unit then Some (Node (place + 1)) else None)
-target_in units unit (suc entries) place = after (entry_at units place) (λ entry.
+target_in units unit zero index = after (slice_get units index) (λ last. if last == unit then Some (Node (index + 1)) else None)
+target_in units unit (suc entries) index = after (entry_at units index) (λ entry.
     if entry.unit == unit then entry_target units entry
     else target_in units unit entries entry.number.end)
 
--- a node of a type below 40, whose units begin at the place
+-- a node of a type below 40, whose units begin at the index
 abbrev pub opened : List ℕ → ℕ → ℕ → Option State
-opened units kind place =
-    if leb 0x30 kind then Some (state.Match (record { left = kind - 0x2f; place = place }))
-    else (if kind == 0 then after (slice_get units place) (λ last. Some (state.Branch (record { count = last + 1; place = place + 1 })))
-    else Some (state.Branch (record { count = kind + 1; place = place })))
+opened units kind index =
+    if leb 0x30 kind then Some (state.Match (record { left = kind - 0x2f; index = index }))
+    else (if kind == 0 then after (slice_get units index) (λ last. Some (state.Branch (record { count = last + 1; index = index + 1 })))
+    else Some (state.Branch (record { count = kind + 1; index = index })))
 
 -- a key that ends here, and no longer one begins with it
 abbrev pub ended : ℕ → Arrival
@@ -64,30 +64,30 @@ passed value next = record { answer = Intermediate (cast_signed w32 value); stat
 abbrev pub begun : State → Arrival
 begun next = record { answer = NoValue; state = next }
 
--- what the node at a place says
+-- what the node at an index says
 abbrev pub arrive_at : List ℕ → ℕ → Option Arrival
-arrive_at units place = after (slice_get units place) (λ lead.
-    if leb 0x8000 lead then after (final_number units (lead - 0x8000) (place + 1)) (λ number. Some (ended number.value))
-    else (if leb 0x40 lead then after (intermediate_number units lead (place + 1)) (λ number.
+arrive_at units index = after (slice_get units index) (λ lead.
+    if leb 0x8000 lead then after (final_number units (lead - 0x8000) (index + 1)) (λ number. Some (ended number.value))
+    else (if leb 0x40 lead then after (intermediate_number units lead (index + 1)) (λ number.
     after (opened units (lead % 0x40) number.end) (λ next. Some (passed number.value next)))
-    else after (opened units lead (place + 1)) (λ next. Some (begun next))))
+    else after (opened units lead (index + 1)) (λ next. Some (begun next))))
 
 -- what a branch unit leads to says
 abbrev pub reached : List ℕ → Target → Option Arrival
 reached units (Value value) = Some (ended value)
-reached units (Node place) = arrive_at units place
+reached units (Node index) = arrive_at units index
 
 -- what a unit leads to where a unit must match
 abbrev pub matched : List ℕ → Match → ℕ → Option Arrival
-matched units run unit = after (slice_get units run.place) (λ expected.
-    if expected == unit then (if leb run.left 1 then arrive_at units (run.place + 1)
-    else Some (begun (state.Match (record { left = run.left - 1; place = run.place + 1 }))))
+matched units run unit = after (slice_get units run.index) (λ expected.
+    if expected == unit then (if leb run.left 1 then arrive_at units (run.index + 1)
+    else Some (begun (state.Match (record { left = run.left - 1; index = run.index + 1 }))))
     else None)
 
 -- what a unit leads to at a branch
 abbrev pub branched : List ℕ → Branch → ℕ → Option Arrival
 branched units branch unit = after (small_part units unit branch.count branch) (λ part.
-    after (target_in units unit (part.count - 1) part.place) (λ target. reached units target))
+    after (target_in units unit (part.count - 1) part.index) (λ target. reached units target))
 
 -- what a unit leads to
 abbrev pub step : List ℕ → State → ℕ → Option Arrival

@@ -15,18 +15,18 @@ abbrev pub total : List (List ℕ × ℤ) → ℕ
 total [] = 0
 total (pair ∷ pairs) = length pair.0 + total pairs
 
--- the key at the place is empty
+-- the key at the index is empty
 abbrev pub IsEmptyKey : List (List ℕ × ℤ) → ℕ → Type 0
-IsEmptyKey pairs place = (number : ℤ) × (slice_get pairs place ≡ Some ([], number))
+IsEmptyKey pairs index = (number : ℤ) × (slice_get pairs index ≡ Some ([], number))
 
--- the key at the place does not come after the one before it
+-- the key at the index does not come after the one before it
 abbrev pub IsUnsorted : List (List ℕ × ℤ) → ℕ → Type 0
-IsUnsorted pairs place = (first : List ℕ × ℤ) × (second : List ℕ × ℤ) × (0 < place)
-    × (slice_get pairs (place - 1) ≡ Some first) × (slice_get pairs place ≡ Some second) × (Below first.0 second.0 → ⊥)
+IsUnsorted pairs index = (first : List ℕ × ℤ) × (second : List ℕ × ℤ) × (0 < index)
+    × (slice_get pairs (index - 1) ≡ Some first) × (slice_get pairs index ≡ Some second) × (Below first.0 second.0 → ⊥)
 
--- no key before the place is at fault
+-- no key before the index is at fault
 abbrev pub NoneBefore : List (List ℕ × ℤ) → ℕ → Type 0
-NoneBefore pairs place = (other : ℕ) → other < place → IsEmptyKey pairs other ⊎ IsUnsorted pairs other → ⊥
+NoneBefore pairs index = (other : ℕ) → other < index → IsEmptyKey pairs other ⊎ IsUnsorted pairs other → ⊥
 
 -- the keys are written: none is at fault, and they are not too long
 abbrev pub AreWritten : List (List ℕ × ℤ) → Type 0
@@ -39,8 +39,8 @@ AreShort limit (pair ∷ pairs) = (length pair.0 ≤ limit) × AreShort limit pa
 
 -- why the keys are refused
 abbrev pub Explains : List (List ℕ × ℤ) → WriteUnitsError → Type 0
-Explains pairs (EmptyKey place) = NoneBefore pairs place × IsEmptyKey pairs place
-Explains pairs (NotSorted place) = NoneBefore pairs place × (IsEmptyKey pairs place → ⊥) × IsUnsorted pairs place
+Explains pairs (EmptyKey index) = NoneBefore pairs index × IsEmptyKey pairs index
+Explains pairs (NotSorted index) = NoneBefore pairs index × (IsEmptyKey pairs index → ⊥) × IsUnsorted pairs index
 Explains pairs TooLarge = NoneBefore pairs (length pairs) × (268_435_456 < total pairs)
 Explains pairs Memory = AreWritten pairs
 

@@ -5,22 +5,22 @@ ghost use Rattle.icu_char16trie.specs.UnitNumbers.{with_unit, two_units, final_n
 
 use icu_packed_vector::PackedVec;
 
-/// A number and the place after it.
+/// A number and the index after it.
 #[derive(Clone, Copy)]
 pub(super) struct Number {
     pub(super) value: u32,
     pub(super) end: usize,
 }
 
-/// The unit at a place, or `None` past the end.
+/// The unit at an index, or `None` past the end.
 #[inline(always)]
-pub(super) fn unit_at(units: &PackedVec<'_, u16>, place: usize) -> Option<u16>
-    ensures unit { result ≡ slice_get units.now place }
+pub(super) fn unit_at(units: &PackedVec<'_, u16>, index: usize) -> Option<u16>
+    ensures unit { result ≡ slice_get units.now index }
     ensures size { IfSome result (λ unit. unit < 2 ^ 16) }
-    ensures room { IfSome result (λ unit. place + 1 < 2 ^ 64) }
+    ensures room { IfSome result (λ unit. index + 1 < 2 ^ 64) }
 {
-    if place < units.len() {
-        units.get(place)
+    if index < units.len() {
+        units.get(index)
     } else {
         None
     }
@@ -28,83 +28,83 @@ pub(super) fn unit_at(units: &PackedVec<'_, u16>, place: usize) -> Option<u16>
 
 /// One unit more, below a number of high bits.
 #[inline(always)]
-fn with_unit(units: &PackedVec<'_, u16>, high: u16, place: usize) -> Option<Number>
-    ensures { result ≡ with_unit units.now high place }
+fn with_unit(units: &PackedVec<'_, u16>, high: u16, index: usize) -> Option<Number>
+    ensures { result ≡ with_unit units.now high index }
 {
-    let low = unit_at(units, place)?;
+    let low = unit_at(units, index)?;
     Some(Number {
         value: high as u32 * 0x1_0000 + low as u32,
-        end: place + 1,
+        end: index + 1,
     })
 }
 
 /// Two units, the high one first.
 #[inline(always)]
-fn two_units(units: &PackedVec<'_, u16>, place: usize) -> Option<Number>
-    ensures { result ≡ two_units units.now place }
+fn two_units(units: &PackedVec<'_, u16>, index: usize) -> Option<Number>
+    ensures { result ≡ two_units units.now index }
 {
-    let high = unit_at(units, place)?;
-    with_unit(units, high, place + 1)
+    let high = unit_at(units, index)?;
+    with_unit(units, high, index + 1)
 }
 
-/// A final value or a jump, whose lead, without its highest bit, ends before the place.
+/// A final value or a jump, whose lead, without its highest bit, ends before the index.
 #[inline(always)]
-pub(super) fn final_number(units: &PackedVec<'_, u16>, lead: u16, place: usize) -> Option<Number>
-    ensures { result ≡ final_number units.now lead place }
+pub(super) fn final_number(units: &PackedVec<'_, u16>, lead: u16, index: usize) -> Option<Number>
+    ensures { result ≡ final_number units.now lead index }
 {
     if lead < 0x4000 {
         Some(Number {
             value: lead as u32,
-            end: place,
+            end: index,
         })
     } else if lead < 0x7fff {
-        with_unit(units, lead - 0x4000, place)
+        with_unit(units, lead - 0x4000, index)
     } else {
-        two_units(units, place)
+        two_units(units, index)
     }
 }
 
-/// An intermediate value, whose lead of 40 to 7FFF ends before the place.
+/// An intermediate value, whose lead of 40 to 7FFF ends before the index.
 #[inline(always)]
 pub(super) fn intermediate_number(
     units: &PackedVec<'_, u16>,
     lead: u16,
-    place: usize,
+    index: usize,
 ) -> Option<Number>
     requires { 0x40 ≤ lead }
-    ensures { result ≡ intermediate_number units.now lead place }
+    ensures { result ≡ intermediate_number units.now lead index }
 {
     if lead < 0x4040 {
         Some(Number {
             value: (lead >> 6) as u32 - 1,
-            end: place,
+            end: index,
         })
     } else if lead < 0x7fc0 {
-        with_unit(units, (lead >> 6) - 0x101, place)
+        with_unit(units, (lead >> 6) - 0x101, index)
     } else {
-        two_units(units, place)
+        two_units(units, index)
     }
 }
 
 /// How far a branch jumps to its first half.
 #[inline(always)]
-pub(super) fn delta(units: &PackedVec<'_, u16>, place: usize) -> Option<Number>
-    ensures { result ≡ delta units.now place }
+pub(super) fn delta(units: &PackedVec<'_, u16>, index: usize) -> Option<Number>
+    ensures { result ≡ delta units.now index }
 {
-    let lead = unit_at(units, place)?;
+    let lead = unit_at(units, index)?;
     if lead < 0xfc00 {
         Some(Number {
             value: lead as u32,
-            end: place + 1,
+            end: index + 1,
         })
     } else if lead < 0xffff {
-        with_unit(units, lead - 0xfc00, place + 1)
+        with_unit(units, lead - 0xfc00, index + 1)
     } else {
-        two_units(units, place + 1)
+        two_units(units, index + 1)
     }
 }
 
-/// The place after a jump, or `None` where it leaves the units.
+/// The index after a jump, or `None` where it leaves the units.
 #[inline(always)]
 pub(super) fn landing(units: &PackedVec<'_, u16>, jump: Number) -> Option<usize>
     ensures { result ≡ landing units.now jump }

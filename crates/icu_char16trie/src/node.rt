@@ -11,14 +11,14 @@ use icu_packed_vector::PackedVec;
 #[derive(Clone, Copy, Debug)]
 pub(super) struct Branch {
     pub(super) count: usize,
-    pub(super) place: usize,
+    pub(super) index: usize,
 }
 
 /// Units that must match: how many are left, and where they begin.
 #[derive(Clone, Copy, Debug)]
 pub(super) struct Match {
     pub(super) left: usize,
-    pub(super) place: usize,
+    pub(super) index: usize,
 }
 
 /// A branch unit before the last, and its number: a value, or else a jump.
@@ -54,10 +54,10 @@ pub(super) fn is_same_state(one: State, other: State) -> bool
     match (one, other) {
         (State::Stopped, State::Stopped) => true,
         (State::Branch(one), State::Branch(other)) => {
-            one.count == other.count && one.place == other.place
+            one.count == other.count && one.index == other.index
         }
         (State::Match(one), State::Match(other)) => {
-            one.left == other.left && one.place == other.place
+            one.left == other.left && one.index == other.index
         }
         _ => false,
     }
@@ -77,18 +77,18 @@ fn half_of(units: &PackedVec<'_, u16>, unit: u16, branch: Branch) -> Option<Bran
     ensures half { result ≡ half_of units.now unit branch }
     ensures fewer { IfSome result (λ half. half.count < branch.count) }
 {
-    let middle = unit_at(units, branch.place)?;
-    let jump = delta(units, branch.place + 1)?;
+    let middle = unit_at(units, branch.index)?;
+    let jump = delta(units, branch.index + 1)?;
     if unit < middle {
-        let place = landing(units, jump)?;
+        let index = landing(units, jump)?;
         Some(Branch {
             count: branch.count / 2,
-            place,
+            index,
         })
     } else {
         Some(Branch {
             count: branch.count - branch.count / 2,
-            place: jump.end,
+            index: jump.end,
         })
     }
 }
@@ -107,12 +107,12 @@ fn small_part(units: &PackedVec<'_, u16>, unit: u16, branch: Branch) -> Option<B
 
 /// A branch unit before the last, and the number after it.
 #[inline(always)]
-pub(super) fn entry_at(units: &PackedVec<'_, u16>, place: usize) -> Option<Entry>
-    ensures { result ≡ entry_at units.now place }
+pub(super) fn entry_at(units: &PackedVec<'_, u16>, index: usize) -> Option<Entry>
+    ensures { result ≡ entry_at units.now index }
 {
-    let unit = unit_at(units, place)?;
-    let lead = unit_at(units, place + 1)?;
-    let number = final_number(units, lead % 0x8000, place + 2)?;
+    let unit = unit_at(units, index)?;
+    let lead = unit_at(units, index + 1)?;
+    let number = final_number(units, lead % 0x8000, index + 2)?;
     Some(Entry {
         unit,
         is_value: lead >= 0x8000,
@@ -128,78 +128,78 @@ pub(super) fn entry_target(units: &PackedVec<'_, u16>, entry: Entry) -> Option<T
     if entry.is_value {
         return Some(Target::Value(entry.number.value));
     }
-    let place = landing(units, entry.number)?;
-    Some(Target::Node(place))
+    let index = landing(units, entry.number)?;
+    Some(Target::Node(index))
 }
 
 /// What the unit leads to among the entries, the last unit and the node after it.
 #[inline(always)]
-fn target_in(units: &PackedVec<'_, u16>, unit: u16, entries: usize, place: usize) -> Option<Target>
-    ensures { result ≡ target_in units.now unit entries place }
+fn target_in(units: &PackedVec<'_, u16>, unit: u16, entries: usize, index: usize) -> Option<Target>
+    ensures { result ≡ target_in units.now unit entries index }
 {
     let mut left = entries;
-    let mut place = place;
+    let mut index = index;
     while left > 0 {
-        let entry = entry_at(units, place)?;
+        let entry = entry_at(units, index)?;
         if entry.unit == unit {
             return entry_target(units, entry);
         }
-        place = entry.number.end;
+        index = entry.number.end;
         left -= 1;
     }
-    let last = unit_at(units, place)?;
+    let last = unit_at(units, index)?;
     if last == unit {
-        return Some(Target::Node(place + 1));
+        return Some(Target::Node(index + 1));
     }
     None
 }
 
-/// A node of a type below 40, whose units begin at the place.
+/// A node of a type below 40, whose units begin at the index.
 #[inline(always)]
-pub(super) fn opened(units: &PackedVec<'_, u16>, kind: u16, place: usize) -> Option<State>
-    ensures { result ≡ opened units.now kind place }
+pub(super) fn opened(units: &PackedVec<'_, u16>, kind: u16, index: usize) -> Option<State>
+    ensures { result ≡ opened units.now kind index }
 {
     if kind >= 0x30 {
         return Some(State::Match(Match {
             left: kind as usize - 0x2f,
-            place,
+            index,
         }));
     }
     if kind == 0 {
-        let last = unit_at(units, place)?;
+        let last = unit_at(units, index)?;
         return Some(State::Branch(Branch {
             count: last as usize + 1,
-            place: place + 1,
+            index: index + 1,
         }));
     }
     Some(State::Branch(Branch {
         count: kind as usize + 1,
-        place,
+        index,
     }))
 }
 
-/// What the node at a place says.
+/// What the node at an index says.
 #[inline(always)]
-fn arrive_at(units: &PackedVec<'_, u16>, place: usize) -> Option<Arrival>
-    ensures { result ≡ arrive_at units.now place }
+fn arrive_at(units: &PackedVec<'_, u16>, index: usize) -> Option<Arrival>
+    ensures { result ≡ arrive_at units.now index }
 {
-    let lead = unit_at(units, place)?;
+    let lead = unit_at(units, index)?;
     if lead >= 0x8000 {
-        let number = final_number(units, lead - 0x8000, place + 1)?;
+        let number = final_number(units, lead - 0x8000, index + 1)?;
         return Some(Arrival {
             answer: TrieResult::FinalValue(number.value.cast_signed()),
             state: State::Stopped,
         });
     }
     if lead >= 0x40 {
-        let number = intermediate_number(units, lead, place + 1)?;
+        let number = intermediate_number(units, lead, index + 1)?;
         let state = opened(units, lead % 0x40, number.end)?;
         return Some(Arrival {
             answer: TrieResult::Intermediate(number.value.cast_signed()),
             state,
         });
     }
-    let state = opened(units, lead, place + 1)?;
+    let state = opened(units, lead, index + 1)?;
     Some(Arrival {
         answer: TrieResult::NoValue,
         state,
@@ -211,18 +211,18 @@ fn arrive_at(units: &PackedVec<'_, u16>, place: usize) -> Option<Arrival>
 fn matched(units: &PackedVec<'_, u16>, run: Match, unit: u16) -> Option<Arrival>
     ensures { result ≡ matched units.now run unit }
 {
-    let expected = unit_at(units, run.place)?;
+    let expected = unit_at(units, run.index)?;
     if expected != unit {
         return None;
     }
     if run.left <= 1 {
-        return arrive_at(units, run.place + 1);
+        return arrive_at(units, run.index + 1);
     }
     Some(Arrival {
         answer: TrieResult::NoValue,
         state: State::Match(Match {
             left: run.left - 1,
-            place: run.place + 1,
+            index: run.index + 1,
         }),
     })
 }
@@ -233,12 +233,12 @@ fn branched(units: &PackedVec<'_, u16>, branch: Branch, unit: u16) -> Option<Arr
     ensures { result ≡ branched units.now branch unit }
 {
     let part = small_part(units, unit, branch)?;
-    match target_in(units, unit, part.count.saturating_sub(1), part.place)? {
+    match target_in(units, unit, part.count.saturating_sub(1), part.index)? {
         Target::Value(value) => Some(Arrival {
             answer: TrieResult::FinalValue(value.cast_signed()),
             state: State::Stopped,
         }),
-        Target::Node(place) => arrive_at(units, place),
+        Target::Node(index) => arrive_at(units, index),
     }
 }
 

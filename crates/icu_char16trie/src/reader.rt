@@ -23,7 +23,7 @@ use queue::Queue;
 
 /// The keys and values in the units of a unit trie, sorted by the units of the keys. No units
 /// give the empty list. `BadUnits` where the units break the grammar, where the first node has a
-/// value, and where a key has more than `limit` units; the place is that of the value, of the unit
+/// value, and where a key has more than `limit` units; the index is that of the value, of the unit
 /// that does not rise in its branch or that makes a key too long, or else the end of the units.
 /// `Memory` when out of memory: jumps may share nodes, so the list may be far longer than the units.
 pub fn read_units(
@@ -32,8 +32,8 @@ pub fn read_units(
     limit: usize,
 ) -> Result<Vec<(Vec<u16>, i32)>, ReadUnitsError>
     ensures listing { IfOk result (λ list. IsListing units.now limit (map (λ entry. (entry.0.items, entry.1)) list.items)) }
-    ensures refused { (place : ℕ) → result ≡ Err (BadUnits place) → IsUnitTrie units.now → IsWithin units.now limit → ⊥ }
-    ensures place { (place : ℕ) → result ≡ Err (BadUnits place) → StopsAt units.now limit place }
+    ensures refused { (index : ℕ) → result ≡ Err (BadUnits index) → IsUnitTrie units.now → IsWithin units.now limit → ⊥ }
+    ensures index { (index : ℕ) → result ≡ Err (BadUnits index) → StopsAt units.now limit index }
 {
     let Some(lead) = unit_at(units, 0) else {
         return Ok(Vec::new(alloc));
@@ -60,8 +60,8 @@ pub fn all_pass<T: EntryTest>(
     ensures passed { IfOk result (λ all. IsTrue all ↔ ((key : List ℕ) (number : ℤ) → MapsKey units.now (at_node 0) key number → IsTrue (T.test test.now key number))) }
     ensures grammar { IfOk result (λ all. IsUnitTrie units.now) }
     ensures bound { IfOk result (λ all. IsWithin units.now limit) }
-    ensures refused { (place : ℕ) → result ≡ Err (BadUnits place) → IsUnitTrie units.now → IsWithin units.now limit → ⊥ }
-    ensures place { (place : ℕ) → result ≡ Err (BadUnits place) → StopsAt units.now limit place }
+    ensures refused { (index : ℕ) → result ≡ Err (BadUnits index) → IsUnitTrie units.now → IsWithin units.now limit → ⊥ }
+    ensures index { (index : ℕ) → result ≡ Err (BadUnits index) → StopsAt units.now limit index }
 {
     let Some(lead) = unit_at(units, 0) else {
         return Ok(true);

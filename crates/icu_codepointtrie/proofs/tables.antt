@@ -1,2 +1,2 @@
-pub mod FastPlaceLemmas
+pub mod FastSlotLemmas
 pub mod TomlTableLemmas

@@ -34,15 +34,15 @@ pub record AreKept (width : ℕ) (values : List ℕ) (first end : ℕ) (kept : L
   pub few : length kept ≤ end - first
   pub different : IsDistinct (pointwise nat_eq) (map (block width values) kept)
 
--- for each block from the first to before the end the place among the kept ones of one that is like it
-pub record ArePlaces (width : ℕ) (values : List ℕ) (first end : ℕ) (places kept : List ℕ) : Type 0 where
-  pub count : length places ≡ end - first
-  pub inside : (i : ℕ) → i < length places → slice_index places i < length kept
-  pub alike : (b : ℕ) → first ≤ b → b < end → block width values (slice_index kept (slice_index places (b - first))) ≡ block width values b
+-- for each block from the first to before the end the slot among the kept ones of one that is like it
+pub record AreSlots (width : ℕ) (values : List ℕ) (first end : ℕ) (slots kept : List ℕ) : Type 0 where
+  pub count : length slots ≡ end - first
+  pub inside : (i : ℕ) → i < length slots → slice_index slots i < length kept
+  pub alike : (b : ℕ) → first ≤ b → b < end → block width values (slice_index kept (slice_index slots (b - first))) ≡ block width values b
 
--- the place is that of a kept block which is like this one
+-- the slot is that of a kept block which is like this one
 abbrev pub IsKeptAt : ℕ → List ℕ → ℕ → List ℕ → ℕ → Type 0
-IsKeptAt width values number kept place = (place < length kept) × (block width values (slice_index kept place) ≡ block width values number)
+IsKeptAt width values number kept slot = (slot < length kept) × (block width values (slice_index kept slot) ≡ block width values number)
 
 -- more than `limit` different blocks are between two numbers
 abbrev pub HasMore : ℕ → List ℕ → ℕ → ℕ → ℕ → Type 0
@@ -52,11 +52,11 @@ HasMore width values first end limit = (kept : List ℕ) × AreKept width values
 abbrev pub has_same_numbers : Block → Block → Bool
 has_same_numbers x y = pointwise nat_eq x.numbers.items y.numbers.items
 
--- the place of the kept block with these numbers, or none where no kept block has them
+-- the slot of the kept block with these numbers, or none where no kept block has them
 abbrev pub IsFound : ℕ → List ℕ → List ℕ → List ℕ → Option ℕ → Type 0
 IsFound width values kept numbers found = MatchOption found
     ((i : ℕ) → i < length kept → block width values (slice_index kept i) ≢ numbers)
-    (λ place. (place < length kept) × (block width values (slice_index kept place) ≡ numbers))
+    (λ slot. (slot < length kept) × (block width values (slice_index kept slot) ≡ numbers))
 
 -- the map finds the kept blocks, and nothing else, by their numbers
 abbrev pub FindsKept : {S : Type 0} → ℕ → List ℕ → List ℕ → HashMap Block ℕ S → Type 0

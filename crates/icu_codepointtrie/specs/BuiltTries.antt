@@ -1,7 +1,7 @@
 -- What a built trie reads.
 use Rattle.std.specs.Prelude.{◌≡◌, ℕ, ◌<◌, ◌≤◌, List, [], ◌∷◌, ◌++◌, slice_index, Some, true}
 use Rattle.icu_codepointtrie.specs.CodePointMaps.{CodePointMap, mapped}
-use Rattle.icu_codepointtrie.specs.Places.{TrieTables, value_at, has_cell}
+use Rattle.icu_codepointtrie.specs.Slots.{TrieTables, value_at, has_cell}
 
 -- the trie has the map's type, a cell for each number, in it the map's value of a code point, and
 -- past the last code point the error value

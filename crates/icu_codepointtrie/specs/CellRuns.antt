@@ -1,6 +1,6 @@
 -- Runs of code points of one value that all have a cell, or of which none has one.
 use Rattle.std.specs.Prelude.{◌≡◌, ℕ, ◌<◌, ◌≤◌, Bool, Some}
-use Rattle.icu_codepointtrie.specs.Places.{TrieTables, has_cell, value_at}
+use Rattle.icu_codepointtrie.specs.Slots.{TrieTables, has_cell, value_at}
 use Rattle.icu_codepointtrie.specs.SharedBlocks.{key_width, key_value, key_has_cell}
 
 -- the code point has the value, and a cell or none

@@ -5,7 +5,7 @@
 use Rattle.std.specs.Prelude.{◌≡◌, ℕ, ◌+◌, ◌-◌, ◌*◌, ◌/◌, ◌^◌, ◌<◌, ◌≤◌, nat_lt, List, ◌++◌, length, slice_index, Some, if◌then◌else◌}
 use Rattle.icu_codepointtrie.specs.declared.trie.TrieType.{TrieType}
 use Rattle.icu_codepointtrie.specs.declared.builder.layout.Layout.{Layout}
-use Rattle.icu_codepointtrie.specs.Places.{fast_limit, fast_blocks, first_step, data_offset}
+use Rattle.icu_codepointtrie.specs.Slots.{fast_limit, fast_blocks, first_step, data_offset}
 use Rattle.icu_codepointtrie.specs.DataCells.{Stands, TakeFew}
 
 -- from a block of 512 on all values are that of the last code point
@@ -36,8 +36,8 @@ fast_start l b = if nat_lt b 2 then 64 * b else slice_index l.fast.items (b - 2)
 -- the second cell of a block of 512 names a third block by which a block of 16 in it is found
 abbrev pub IsFoundSmall : List ℕ → List ℕ → Layout → ℕ → ℕ → List ℕ → Type 0
 IsFoundSmall values cells l w i head =
-    (place : ℕ) × (data_offset (head ++ l.thirds.items) (slice_index l.seconds.items (w - fast_limit l.trie_type / 512)) i ≡ Some place)
-    × Stands values (w * 512 + i * 16) cells place 16
+    (slot : ℕ) × (data_offset (head ++ l.thirds.items) (slice_index l.seconds.items (w - fast_limit l.trie_type / 512)) i ≡ Some slot)
+    × Stands values (w * 512 + i * 16) cells slot 16
 
 -- each block stands among the cells where the layout has it
 pub record IsLayout (values cells : List ℕ) (l : Layout) : Type 0 where
@@ -56,17 +56,17 @@ AreFew values trie_type wide_end count = (fast small : ℕ)
     × TakeFew 16 values (fast_limit trie_type / 16) (32 * wide_end) (small_room trie_type) small
     × (count ≤ 128 + fast + small)
 
--- the index cell at a place before the third blocks
+-- the index cell at a slot before the third blocks
 unfoldable pub index_cell : Layout → ℕ → ℕ
-index_cell l place =
-    if nat_lt place (fast_blocks l.trie_type) then fast_start l place
-    else if nat_lt place (second_start l.trie_type l.wide_end) then second_start l.trie_type l.wide_end - fast_limit l.trie_type / 512 + 32 * (place - first_step l.trie_type)
-    else slice_index l.seconds.items (place - second_start l.trie_type l.wide_end)
+index_cell l slot =
+    if nat_lt slot (fast_blocks l.trie_type) then fast_start l slot
+    else if nat_lt slot (second_start l.trie_type l.wide_end) then second_start l.trie_type l.wide_end - fast_limit l.trie_type / 512 + 32 * (slot - first_step l.trie_type)
+    else slice_index l.seconds.items (slot - second_start l.trie_type l.wide_end)
 
 -- just these cells
 pub record HasCells (l : Layout) (head : List ℕ) : Type 0 where
   pub count : length head ≡ third_start l.trie_type l.wide_end
-  pub cells : (place : ℕ) → place < third_start l.trie_type l.wide_end → slice_index head place ≡ index_cell l place
+  pub cells : (slot : ℕ) → slot < third_start l.trie_type l.wide_end → slice_index head slot ≡ index_cell l slot
 
 -- the index has just these cells, and then the third blocks
 abbrev pub HasIndex : Layout → List ℕ → Type 0

@@ -1,6 +1,6 @@
 pub mod TrieValues
 pub mod TrieValueLaws
-pub mod Places
+pub mod Slots
 pub mod Ranges
 pub mod SharedBlocks
 pub mod CellRuns

@@ -1,7 +1,7 @@
 -- The ranges of a trie whose values a function maps to one. What the function gives is a relation.
 use Rattle.std.specs.Prelude.{◌≡◌, ℕ, ◌+◌, ◌<◌, ◌≤◌, Bool, true, false, Option, Some, MatchOption}
 use Rattle.std.specs.Range.{range_inclusive_start, range_inclusive_end, range_inclusive_exhausted}
-use Rattle.icu_codepointtrie.specs.Places.{TrieTables, value_at}
+use Rattle.icu_codepointtrie.specs.Slots.{TrieTables, value_at}
 use Rattle.icu_codepointtrie.specs.declared.ranges.CodePointMapRange.{CodePointMapRange}
 
 module _ {T U : Type 0} (t : TrieTables T) (gives : T → U → Type 0) (eq : U → U → Bool) where

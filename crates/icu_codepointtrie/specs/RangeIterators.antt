@@ -1,6 +1,6 @@
 -- What an iterator over ranges has still to go over.
 use Rattle.std.specs.Prelude.{ℕ}
-use Rattle.icu_codepointtrie.specs.Places.{TrieTables}
+use Rattle.icu_codepointtrie.specs.Slots.{TrieTables}
 use Rattle.icu_codepointtrie.specs.declared.iterators.CodePointMapRangeIterator.{CodePointMapRangeIterator}
 use Rattle.icu_codepointtrie.specs.declared.iterators.CodePointRangesForValue.{CodePointRangesForValue}
 use Rattle.icu_codepointtrie.specs.declared.iterators.CodePointMappedRanges.{CodePointMappedRanges}

@@ -2,7 +2,7 @@
 use Rattle.std.specs.Prelude.{◌≡◌, ℕ, ◌+◌, ◌<◌, ◌≤◌, ◌≢◌, ◌↔◌, true, false, List, Option, Some, MatchOption}
 use Rattle.std.specs.declared.ops.RangeInclusive.{RangeInclusive}
 use Rattle.std.specs.Range.{range_inclusive_start, range_inclusive_end, range_inclusive_exhausted}
-use Rattle.icu_codepointtrie.specs.Places.{TrieTables, value_at}
+use Rattle.icu_codepointtrie.specs.Slots.{TrieTables, value_at}
 use Rattle.icu_collections_sets.specs.CodePoints.{holds}
 use Rattle.icu_codepointtrie.specs.declared.ranges.CodePointMapRange.{CodePointMapRange}
 

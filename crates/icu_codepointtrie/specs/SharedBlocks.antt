@@ -1,6 +1,6 @@
 -- Aligned blocks of a trie that are found through one cell of the index have the same values.
 use Rattle.std.specs.Prelude.{◌≡◌, ℕ, ◌+◌, ◌-◌, ◌/◌, ◌%◌, ◌^◌, ◌<◌, ◌≤◌, ◌≢◌, Bool, nat_lt, List, length, Option, Some, slice_get, if◌then◌else◌}
-use Rattle.icu_codepointtrie.specs.Places.{TrieTables, found, data_offset, is_inside, place_or_last, has_cell, value_at}
+use Rattle.icu_codepointtrie.specs.Slots.{TrieTables, found, data_offset, is_inside, slot_or_last, has_cell, value_at}
 use Rattle.icu_codepointtrie.specs.Ranges.{IsConstant}
 
 -- a block's key is its index cell where it is one of 64 below the fast limit, and 10000 (hex) more
@@ -8,19 +8,19 @@ use Rattle.icu_codepointtrie.specs.Ranges.{IsConstant}
 abbrev pub key_width : ℕ → ℕ
 key_width key = if nat_lt key 0x1_0000 then 64 else 512
 
--- the place that a key names for a number of the block
-abbrev pub key_place : List ℕ → ℕ → ℕ → Option ℕ
-key_place index key r =
+-- the slot that a key names for a number of the block
+abbrev pub key_slot : List ℕ → ℕ → ℕ → Option ℕ
+key_slot index key r =
     if nat_lt key 0x1_0000 then Some (key + r)
     else found (data_offset index (key - 0x1_0000) (r / 2 ^ 4)) (λ start. Some (start + r % 16))
 
 -- the value there
 abbrev pub key_value : {T : Type 0} → TrieTables T → ℕ → ℕ → Option T
-key_value t key r = slice_get t.cells (place_or_last (key_place t.index key r) (length t.cells))
+key_value t key r = slice_get t.cells (slot_or_last (key_slot t.index key r) (length t.cells))
 
 -- whether there is a cell
 abbrev pub key_has_cell : {T : Type 0} → TrieTables T → ℕ → ℕ → Bool
-key_has_cell t key r = is_inside (key_place t.index key r) (length t.cells)
+key_has_cell t key r = is_inside (key_slot t.index key r) (length t.cells)
 
 -- the block that begins at the code point has the key
 pub record IsKey {T : Type 0} (t : TrieTables T) (c key : ℕ) : Type 0 where

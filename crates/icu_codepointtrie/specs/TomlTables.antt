@@ -6,7 +6,7 @@ use Rattle.std.specs.Ordering.{nat_cmp, match_ordering}
 use Rattle.toml.specs.Data.{Data, string, integer, array, Items, no_items, item, Members, no_members, member, get_member, as_str, as_array}
 use Rattle.toml.specs.Parse.{parse_document}
 use Rattle.icu_codepointtrie.specs.TrieValues.{fitting}
-use Rattle.icu_codepointtrie.specs.Places.{TrieTables, IsRefused}
+use Rattle.icu_codepointtrie.specs.Slots.{TrieTables, IsRefused}
 use Rattle.icu_codepointtrie.specs.declared.trie.TrieType.{TrieType}
 use Rattle.icu_codepointtrie.specs.declared.trie.TrieType.TheVariants.{Fast, Small}
 use Rattle.icu_codepointtrie.specs.declared.trie.CodePointTrieHeader.{CodePointTrieHeader}

@@ -127,7 +127,7 @@ impl<T: TrieValue> CodePointTrieBuilder<T> {
     }
 }
 
-/// Overwrites the values at the places from the first to before the end.
+/// Overwrites the values at the slots from the first to before the end.
 fn overwrite<T: TrieValue>(values: &mut [T], first: usize, end: usize, value: T)
     requires order { first ≤ end }
     requires end { end ≤ length values.old }
@@ -135,7 +135,7 @@ fn overwrite<T: TrieValue>(values: &mut [T], first: usize, end: usize, value: T)
     ensures values { (c : ℕ) (default : T) → c < length values.old → slice_index_or values.new c default ≡ (if nat_le first c && nat_lt c end then value else slice_index_or values.old c default) }
     ensures blocks { (width : ℕ) → different_blocks T.number width values.new ≤ different_blocks T.number width values.old + 3 }
 {
-    for place in first..end {
-        values[place] = value;
+    for slot in first..end {
+        values[slot] = value;
     }
 }

@@ -5,7 +5,7 @@ ghost use Rattle.icu_codepointtrie.specs.CodePointMaps.{CodePointMap, mapped};
 ghost use Rattle.icu_codepointtrie.specs.BuiltTries.{IsTrieOf};
 ghost use Rattle.icu_codepointtrie.specs.RangeIterators.{ranges_trie, ranges_start};
 ghost use Rattle.icu_codepointtrie.specs.MaximalRanges.{AreMaximalFrom, IsRangeStep};
-ghost use Rattle.icu_codepointtrie.specs.Places.{TrieTables, IsTrie, IsRefused};
+ghost use Rattle.icu_codepointtrie.specs.Slots.{TrieTables, IsTrie, IsRefused};
 ghost use Rattle.icu_codepointtrie.specs.TomlTables.{tables_of_text, IsTomlRefused};
 ghost use Rattle.icu_codepointtrie.specs.declared.ranges.CodePointMapRange.{CodePointMapRange};
 ghost use Rattle.icu_codepointtrie.specs.declared.iterators.CodePointMapRangeIterator.{CodePointMapRangeIterator};

@@ -1,7 +1,7 @@
 //! The planes of Unicode: the 17 blocks of 65,536 code points.
 ghost use Rattle.std.specs.Prelude.{◌≡◌, ℕ, ◌*◌, ◌/◌, ◌<◌, ◌≤◌, Some, length, IfOk};
 ghost use Rattle.icu_codepointtrie.specs.CodePointMaps.{mapped};
-ghost use Rattle.icu_codepointtrie.specs.Places.{value_at};
+ghost use Rattle.icu_codepointtrie.specs.Slots.{value_at};
 
 use super::builder::{CodePointTrieBuildError, CodePointTrieBuilder};
 use super::trie::{CodePointTrie, TrieType};

@@ -1,6 +1,6 @@
 //! The ranges of code points that have one value.
 ghost use Rattle.std.specs.Prelude.{◌≡◌, ◌≤◌, ◌<◌, ◌+◌, Some, IsTrue, ◌↔◌, MatchOption};
-ghost use Rattle.icu_codepointtrie.specs.Places.{TrieTables, value_at};
+ghost use Rattle.icu_codepointtrie.specs.Slots.{TrieTables, value_at};
 ghost use Rattle.icu_codepointtrie.specs.Ranges.{IsConstant, IsRangeFrom, IsEndOfRange};
 
 use super::shared_blocks::key_width;

@@ -1,7 +1,7 @@
 //! Blocks of code points that are found through one cell of the index: their values are alike, so
 //! that a walk reads one of them.
 ghost use Rattle.std.specs.Prelude.{◌≡◌, ◌≤◌, ◌<◌, IfSome};
-ghost use Rattle.icu_codepointtrie.specs.Places.{fast_limit};
+ghost use Rattle.icu_codepointtrie.specs.Slots.{fast_limit};
 ghost use Rattle.icu_codepointtrie.specs.SharedBlocks.{key_width, IsKey, IsTail, IsCellTail, IsFirstWithout};
 
 use super::trie::CodePointTrie;

@@ -4,7 +4,7 @@ ghost use Rattle.std.specs.Prelude.{◌&&◌, nat_eq};
 ghost use Rattle.std.specs.Cmp.{and_per, on_per, partial_equiv_from_equiv, nat_eq_equiv};
 ghost use Rattle.std.specs.Cmp.Lexicographic.{pointwise, lists_per};
 ghost use Rattle.icu_codepointtrie.specs.contracts.trie.CodePointTrieHeaderPartialEq.TheImpl.Laws.{laws-law};
-ghost use Rattle.icu_codepointtrie.specs.Places.{fast_limit, first_step, fast_place, wide_offset, data_offset, small_place, named_place, has_cell, value_at, HasFastCells, IsTrie, IsRefused};
+ghost use Rattle.icu_codepointtrie.specs.Slots.{fast_limit, first_step, fast_slot, wide_offset, data_offset, small_slot, named_slot, has_cell, value_at, HasFastCells, IsTrie, IsRefused};
 
 use super::value::TrieValue;
 use icu_packed_vector::PackedVec;
@@ -73,7 +73,7 @@ impl<T: TrieValue> Drop for CodePointTrie<'_, T> {
 }
 
 impl<'a, T: TrieValue> Model for CodePointTrie<'a, T> {
-    ghost use Rattle.icu_codepointtrie.specs.Places.{TrieTables, IsTrie};
+    ghost use Rattle.icu_codepointtrie.specs.Slots.{TrieTables, IsTrie};
 
     ghost Value = { TrieTables T };
 
@@ -83,7 +83,7 @@ impl<'a, T: TrieValue> Model for CodePointTrie<'a, T> {
 }
 
 impl TrieType {
-    /// From this code point on a place is found in three steps.
+    /// From this code point on a slot is found in three steps.
     #[inline]
     pub(super) fn fast_limit(self) -> u32
         ensures { result ≡ fast_limit self }
@@ -106,11 +106,11 @@ impl TrieType {
     }
 }
 
-/// The place of a code point below the fast limit.
-#[tactic(auto, unfolding(crate::specs::Places::fast_place))]
+/// The slot of a code point below the fast limit.
+#[tactic(auto, unfolding(crate::specs::Slots::fast_slot))]
 #[inline]
-fn fast_place(index: &PackedVec<'_, u16>, code_point: u32) -> Option<usize>
-    ensures { result ≡ fast_place index.now code_point }
+fn fast_slot(index: &PackedVec<'_, u16>, code_point: u32) -> Option<usize>
+    ensures { result ≡ fast_slot index.now code_point }
 {
     let start = index.get((code_point >> 6) as usize)?;
     Some(start as usize + (code_point & 63) as usize)
@@ -146,11 +146,11 @@ fn data_offset(index: &PackedVec<'_, u16>, block: u16, number: usize) -> Option<
     }
 }
 
-/// The place of a code point from the fast limit on.
-#[tactic(auto, unfolding(crate::specs::Places::small_place))]
+/// The slot of a code point from the fast limit on.
+#[tactic(auto, unfolding(crate::specs::Slots::small_slot))]
 #[inline]
-fn small_place(trie_type: TrieType, index: &PackedVec<'_, u16>, code_point: u32) -> Option<usize>
-    ensures { result ≡ small_place trie_type index.now code_point }
+fn small_slot(trie_type: TrieType, index: &PackedVec<'_, u16>, code_point: u32) -> Option<usize>
+    ensures { result ≡ small_slot trie_type index.now code_point }
 {
     let second = index.get((code_point >> 14) as usize + trie_type.first_step())?;
     let block = index.get(second as usize + ((code_point >> 9) & 31) as usize)?;
@@ -220,18 +220,18 @@ impl<'a, T: TrieValue> CodePointTrie<'a, T> {
         }
     }
 
-    /// The place that header and index name from the fast limit on, of a trie of this type.
+    /// The slot that header and index name from the fast limit on, of a trie of this type.
     #[inline]
-    fn upper_place(&self, trie_type: TrieType, code_point: u32) -> Option<usize>
+    fn upper_slot(&self, trie_type: TrieType, code_point: u32) -> Option<usize>
         requires trie_type { self.now.header.trie_type ≡ trie_type }
         requires upper { fast_limit trie_type ≤ code_point }
-        ensures { result ≡ named_place self.now.header self.now.index (length self.now.cells) code_point }
+        ensures { result ≡ named_slot self.now.header self.now.index (length self.now.cells) code_point }
     {
         let count = self.cells.len();
         if code_point > 0x10_FFFF {
             Some(count - 1)
         } else if code_point < self.header.high_start {
-            small_place(trie_type, &self.index, code_point)
+            small_slot(trie_type, &self.index, code_point)
         } else if count < 2 {
             None
         } else {
@@ -239,20 +239,20 @@ impl<'a, T: TrieValue> CodePointTrie<'a, T> {
         }
     }
 
-    /// The place that header and index name.
+    /// The slot that header and index name.
     #[inline]
-    fn named_place(&self, code_point: u32) -> Option<usize>
-        ensures { result ≡ named_place self.now.header self.now.index (length self.now.cells) code_point }
+    fn named_slot(&self, code_point: u32) -> Option<usize>
+        ensures { result ≡ named_slot self.now.header self.now.index (length self.now.cells) code_point }
     {
         let trie_type = self.header.trie_type;
         if code_point < trie_type.fast_limit() {
-            fast_place(&self.index, code_point)
+            fast_slot(&self.index, code_point)
         } else {
-            self.upper_place(trie_type, code_point)
+            self.upper_slot(trie_type, code_point)
         }
     }
 
-    /// The value of a number below the fast limit: all such places are inside, so none is checked.
+    /// The value of a number below the fast limit: all such slots are inside, so none is checked.
     #[inline]
     fn fast_value(&self, code_point: u32) -> T
         requires { code_point < fast_limit self.now.header.trie_type }
@@ -272,11 +272,11 @@ impl<'a, T: TrieValue> CodePointTrie<'a, T> {
         ensures is_value { T.is_value result }
     {
         let last = self.cells.len() - 1;
-        let place = match self.upper_place(trie_type, code_point) {
-            Some(place) if place <= last => place,
+        let slot = match self.upper_slot(trie_type, code_point) {
+            Some(slot) if slot <= last => slot,
             _ => last,
         };
-        self.cells.at(place)
+        self.cells.at(slot)
     }
 
     /// The value of a number in a trie of this type. Where the type is a constant, nothing is asked
@@ -300,8 +300,8 @@ impl<'a, T: TrieValue> CodePointTrie<'a, T> {
     pub fn has_cell(&self, code_point: u32) -> bool
         ensures { result ≡ has_cell self.now code_point }
     {
-        match self.named_place(code_point) {
-            Some(place) => place < self.cells.len(),
+        match self.named_slot(code_point) {
+            Some(slot) => slot < self.cells.len(),
             None => false,
         }
     }

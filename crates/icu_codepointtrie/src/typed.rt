@@ -1,6 +1,6 @@
 //! Tries whose type is known, and with it the fast limit.
 ghost use Rattle.std.specs.Prelude.{◌≡◌, ◌≢◌, Some, MatchResult};
-ghost use Rattle.icu_codepointtrie.specs.Places.{TrieTables, value_at};
+ghost use Rattle.icu_codepointtrie.specs.Slots.{TrieTables, value_at};
 ghost use Rattle.icu_codepointtrie.specs.declared.trie.TrieType.TheVariants.{Fast, Small};
 
 use super::trie::{CodePointTrie, TrieType};

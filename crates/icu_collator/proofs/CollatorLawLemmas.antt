@@ -131,7 +131,7 @@ module _ (collator : CollatorBorrowed) (canonical : IsCanonical (canonical_by co
 
 -- ---- What checked tables add
 
--- tables that reorder whole leads keep what stands behind a lead
+-- tables that reorder whole leads keep what stands after a lead
 whole_kept : (special : CollationSpecialPrimaries) (o : Option CollationReordering)
     → IfSome o (IsSoundReordering special) → IfSome o IsOfWholeLeads
     → (p : ℕ) → reordered_in o p ≡ with_lead (λ lead. reordered_in o (lead * 2 ^ 24) / 2 ^ 24) p

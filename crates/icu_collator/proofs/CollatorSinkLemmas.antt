@@ -18,37 +18,37 @@ length_overlaid old bytes =
     length-append (take (length old) bytes) (drop (length bytes) old)
     ∙ omega (arith, length-take (length old) bytes, length-drop (length bytes) old)
 
--- behind the end of a slice nothing is written
-written_behind : (old : List ℕ) (place : ℕ) (bytes : List ℕ) → length old ≤ place → written_at old place bytes ≡ old
-written_behind old place bytes full =
-    let none : length old - place ≡ 0 = omega arith in
-    let nothing : take (length old - place) bytes ≡ [] = ap (λ n. take n bytes) none in
-    let end : drop (length bytes) (drop place old) ≡ [] =
-    ap (drop (length bytes)) (drop_all place old full) ∙ drop_all (length bytes) [] (omega arith) in
-    ap (λ l. l ++ take (length old - place) bytes ++ drop (length bytes) (drop place old)) (take_all place old full)
-    ∙ ap (λ l. old ++ l ++ drop (length bytes) (drop place old)) nothing ∙ ap (λ l. old ++ [] ++ l) end
+-- after the end of a slice nothing is written
+written_behind : (old : List ℕ) (index : ℕ) (bytes : List ℕ) → length old ≤ index → written_at old index bytes ≡ old
+written_behind old index bytes full =
+    let none : length old - index ≡ 0 = omega arith in
+    let nothing : take (length old - index) bytes ≡ [] = ap (λ n. take n bytes) none in
+    let end : drop (length bytes) (drop index old) ≡ [] =
+    ap (drop (length bytes)) (drop_all index old full) ∙ drop_all (length bytes) [] (omega arith) in
+    ap (λ l. l ++ take (length old - index) bytes ++ drop (length bytes) (drop index old)) (take_all index old full)
+    ∙ ap (λ l. old ++ l ++ drop (length bytes) (drop index old)) nothing ∙ ap (λ l. old ++ [] ++ l) end
     ∙ append-nil (old ++ []) ∙ append-nil old
 
--- what is written behind bytes that fit stands behind them
+-- what is written after bytes that fit stands after them
 written_more : (old before bytes : List ℕ) → length before ≤ length old → written_at (overlaid old before) (length before) bytes ≡ overlaid old (before ++ bytes)
 written_more old before bytes fits =
-    let place = length before in
-    let rest = drop place old in
+    let index = length before in
+    let rest = drop index old in
     let is : overlaid old before ≡ before ++ rest = overlaid_fits old before fits in
-    let room : length (before ++ rest) - place ≡ length old - place =
-    omega (arith, length-append before rest, length-drop place old) in
-    let all : length old ≡ place + (length old - place) = omega arith in
-    let front : take (length old) (before ++ bytes) ≡ before ++ take (length old - place) bytes =
-    ap (λ n. take n (before ++ bytes)) all ∙ take-append-add before bytes (length old - place) in
+    let room : length (before ++ rest) - index ≡ length old - index =
+    omega (arith, length-append before rest, length-drop index old) in
+    let all : length old ≡ index + (length old - index) = omega arith in
+    let front : take (length old) (before ++ bytes) ≡ before ++ take (length old - index) bytes =
+    ap (λ n. take n (before ++ bytes)) all ∙ take-append-add before bytes (length old - index) in
     let back : drop (length (before ++ bytes)) old ≡ drop (length bytes) rest =
-    ap (λ n. drop n old) (length-append before bytes) ∙ sym (drop-drop (length bytes) place old) in
-    ap (λ l. written_at l place bytes) is
-    ∙ ap (λ l. l ++ take (length (before ++ rest) - place) bytes ++ drop (length bytes) (drop place (before ++ rest))) (take_at before rest place refl)
-    ∙ ap (λ n. before ++ take n bytes ++ drop (length bytes) (drop place (before ++ rest))) room
-    ∙ ap (λ l. before ++ take (length old - place) bytes ++ drop (length bytes) l) (drop_at before rest place refl)
-    ∙ sym (ap (λ l. l ++ drop (length (before ++ bytes)) old) front ∙ ap (λ l. before ++ take (length old - place) bytes ++ l) back)
+    ap (λ n. drop n old) (length-append before bytes) ∙ sym (drop-drop (length bytes) index old) in
+    ap (λ l. written_at l index bytes) is
+    ∙ ap (λ l. l ++ take (length (before ++ rest) - index) bytes ++ drop (length bytes) (drop index (before ++ rest))) (take_at before rest index refl)
+    ∙ ap (λ n. before ++ take n bytes ++ drop (length bytes) (drop index (before ++ rest))) room
+    ∙ ap (λ l. before ++ take (length old - index) bytes ++ drop (length bytes) l) (drop_at before rest index refl)
+    ∙ sym (ap (λ l. l ++ drop (length (before ++ bytes)) old) front ∙ ap (λ l. before ++ take (length old - index) bytes ++ l) back)
 
--- bytes behind those that fill a slice change nothing
+-- bytes after those that fill a slice change nothing
 overlaid_past : (old before bytes : List ℕ) → length old ≤ length before → overlaid old (before ++ bytes) ≡ overlaid old before
 overlaid_past old before bytes full =
     overlaid_full old (before ++ bytes) (omega (arith, length-append before bytes))
@@ -69,13 +69,13 @@ overlaid_more old before bytes small = ⊎_elim
 pub counted_more : (before bytes : List ℕ) → min (byte_count before + length bytes) greatest_count ≡ byte_count (before ++ bytes)
 counted_more before bytes = omega (arith, length-append before bytes)
 
--- bytes in order: those before a place, the one there, and the others
-pub pieces_are : (before bytes after : List ℕ) (place : ℕ) → place < length bytes → before ++ take place bytes ++ (get_or bytes place 0 ∷ []) ++ (drop (place + 1) bytes ++ after) ≡ before ++ bytes ++ after
-pieces_are before bytes after place inside =
-    let here = get_or bytes place 0 ∷ [] in
-    let rest = drop (place + 1) bytes in
-    let first : before ++ take place bytes ++ here ≡ before ++ take (place + 1) bytes =
-    append_assoc before (take place bytes) here ∙ ap (λ l. before ++ l) (sym (take_more bytes place 0 inside)) in
-    let all : before ++ take (place + 1) bytes ++ rest ≡ before ++ bytes =
-    append_assoc before (take (place + 1) bytes) rest ∙ ap (λ l. before ++ l) (take-append-drop (place + 1) bytes) in
-    ap (λ l. l ++ (rest ++ after)) first ∙ sym (append_assoc (before ++ take (place + 1) bytes) rest after) ∙ ap (λ l. l ++ after) all
+-- bytes in order: those before an index, the one there, and the others
+pub pieces_are : (before bytes after : List ℕ) (index : ℕ) → index < length bytes → before ++ take index bytes ++ (get_or bytes index 0 ∷ []) ++ (drop (index + 1) bytes ++ after) ≡ before ++ bytes ++ after
+pieces_are before bytes after index inside =
+    let here = get_or bytes index 0 ∷ [] in
+    let rest = drop (index + 1) bytes in
+    let first : before ++ take index bytes ++ here ≡ before ++ take (index + 1) bytes =
+    append_assoc before (take index bytes) here ∙ ap (λ l. before ++ l) (sym (take_more bytes index 0 inside)) in
+    let all : before ++ take (index + 1) bytes ++ rest ≡ before ++ bytes =
+    append_assoc before (take (index + 1) bytes) rest ∙ ap (λ l. before ++ l) (take-append-drop (index + 1) bytes) in
+    ap (λ l. l ++ (rest ++ after)) first ∙ sym (append_assoc (before ++ take (index + 1) bytes) rest after) ∙ ap (λ l. l ++ after) all

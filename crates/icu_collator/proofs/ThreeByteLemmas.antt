@@ -27,7 +27,7 @@ three_spell lead next last c after a b d f g h e low known =
     ap (λ l. utf8_chars (l ++ after)) (sym (append-nil (encode_utf8 c) ∙ three_bytes lead next last c a d f g h e low high))
     ∙ lossy_chars-front (c ∷ []) after (and_from (scalar c) true known refl)
 
--- bytes whose first three, one behind another, spell a character: this one, and those of the bytes behind
+-- bytes whose first three, one after another, spell a character: this one, and those of the bytes after
 pub three_begin : (bytes rest behind after : List ℕ) (lead next last c : ℕ) → bytes ≡ lead ∷ rest → rest ≡ next ∷ behind → behind ≡ last ∷ after
     → 0xE0 ≤ lead → lead < 0xF0 → 0x80 ≤ next → next < 0xC0 → 0x80 ≤ last → last < 0xC0
     → c ≡ ((lead - 0xE0) * 0x40 + (next - 0x80)) * 0x40 + (last - 0x80) → 0x800 ≤ c → IsScalar c → utf8_chars bytes ≡ c ∷ utf8_chars (drop 3 bytes)

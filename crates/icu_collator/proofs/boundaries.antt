@@ -15,4 +15,4 @@ pub mod CommonBoundaryLemmas
 pub mod LetterLemmas
 pub mod SyllableLemmas
 pub mod SafeCharacterLemmas
-pub mod ReadingPlaceLemmas
+pub mod ReadingStartLemmas

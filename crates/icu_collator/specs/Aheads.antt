@@ -11,13 +11,13 @@ use Rattle.icu_collator_core.specs.declared.flat.steps.FlatStep.{FlatStep}
 use Rattle.icu_collator_core.specs.declared.flat.steps.FlatStep.TheVariants.{Primary, End, Other}
 use Rattle.icu_collator.specs.FlatOrders.{counted_primaries, does_count}
 
--- what is left of a text: a character, if one was taken, and behind it what an iterator gives
+-- what is left of a text: a character, if one was taken, and after it what an iterator gives
 abbrev pub IsLeft : {I : Type 0} → (I → Option ℕ → I → Type 0) → Option ℕ → I → List ℕ → Type 0
 IsLeft steps None chars rest = Spells steps chars rest
 IsLeft steps (Some c) chars rest = (more : List ℕ) × (rest ≡ c ∷ more) × Spells steps chars more
 
--- Of a text, the full lists of its first characters are in order and have these elements, where what follows may stand behind
--- this class. The characters behind are left.
+-- Of a text, the full lists of its first characters are in order and have these elements, where what follows may stand after
+-- this class. The characters after are left.
 pub record IsReadAhead {I : Type 0} (source : CollationSource) (numeric : Option ℕ) (steps : I → Option ℕ → I → Type 0) (text : List ℕ) (held : Option ℕ) (chars : I) (class : ℕ) (items : List ℕ) : Type 0 where
   pub list : List ℕ
   pub rest : List ℕ
@@ -33,7 +33,7 @@ counted_if end p = cond (does_count end p) (p ∷ []) []
 abbrev pub counted_three : ℕ → NextPrimaries → List ℕ
 counted_three end read = counted_if end read.first ++ (counted_if end read.second ++ counted_if end read.third)
 
--- those behind the first
+-- those after the first
 abbrev pub without_first : NextPrimaries → NextPrimaries
 without_first read = record { first = read.second; second = read.third; third = 0; class = read.class }
 

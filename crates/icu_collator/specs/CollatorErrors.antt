@@ -9,7 +9,7 @@ use Rattle.icu_collator_core.specs.declared.check.TableFault.TheVariants.{Trie, 
 use Rattle.icu_collator.specs.declared.comparison.error.CollatorError.{CollatorError}
 use Rattle.icu_collator.specs.declared.comparison.error.CollatorError.TheVariants.{Data, Table, Memory}
 
--- a refused load, or refused canonical tables; every want of memory is one error
+-- a refused load, or refused canonical tables; every refused memory is one error
 abbrev pub of_data : DataError → CollatorError
 of_data (Missing name) = Data (Missing name)
 of_data (Invalid name) = Data (Invalid name)
@@ -25,7 +25,7 @@ of_fault (Context c) = Table (Context c)
 of_fault (Weight c) = Table (Weight c)
 of_fault PrefixOfWeight = Table PrefixOfWeight
 of_fault Diacritics = Table Diacritics
-of_fault (Jamo place) = Table (Jamo place)
+of_fault (Jamo index) = Table (Jamo index)
 of_fault Reordering = Table Reordering
 of_fault SpecialPrimaries = Table SpecialPrimaries
 of_fault NoRoom = Memory

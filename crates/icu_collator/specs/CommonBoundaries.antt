@@ -1,4 +1,4 @@
--- Boundaries that two texts have in common, and how what stands behind them compares.
+-- Boundaries that two texts have in common, and how what stands after them compares.
 use Rattle.std.specs.Prelude.{◌≡◌, ℕ, List, [], ◌++◌, Option}
 use Rattle.std.specs.declared.cmp.Ordering.{Ordering}
 use Rattle.icu_normalizer_core.specs.Iter.{Spells}
@@ -12,9 +12,9 @@ use Rattle.icu_collator.specs.Levels.{elements_of_text, levels_of}
 use Rattle.icu_collator.specs.Order.{levels_order}
 use Rattle.icu_collator.specs.Shifted.{counted}
 
--- Two texts have a front in common, which is empty at the first place, and what stands behind it is left to iterators. It is read
+-- Two texts have a front in common, which is empty at the first index, and what stands after it is left to iterators. It is read
 -- without what stands there.
-pub record BeginAt {I J : Type 0} (source : CollationSource) (left_steps : I → Option ℕ → I → Type 0) (right_steps : J → Option ℕ → J → Type 0) (a b : List ℕ) (place : ℕ) (left : I) (right : J) : Type 0 where
+pub record BeginAt {I J : Type 0} (source : CollationSource) (left_steps : I → Option ℕ → I → Type 0) (right_steps : J → Option ℕ → J → Type 0) (a b : List ℕ) (index : ℕ) (left : I) (right : J) : Type 0 where
   pub front : List ℕ
   pub left_rest : List ℕ
   pub right_rest : List ℕ
@@ -24,9 +24,9 @@ pub record BeginAt {I J : Type 0} (source : CollationSource) (left_steps : I →
   pub right_spells : Spells right_steps right right_rest
   pub left_apart : (numeric : Option ℕ) → EndsApart source numeric front left_rest
   pub right_apart : (numeric : Option ℕ) → EndsApart source numeric front right_rest
-  pub whole : place ≡ 0 → front ≡ []
+  pub whole : index ≡ 0 → front ≡ []
 
--- elements that count behind others as they do alone
+-- elements that count after others as they do alone
 abbrev pub CountApart : Collation → ResolvedCollatorOptions → List Element → Type 0
 CountApart collation options fs =
     (es : List Element) → counted collation options (es ++ fs) ≡ counted collation options es ++ counted collation options fs

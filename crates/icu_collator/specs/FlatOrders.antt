@@ -69,7 +69,7 @@ abbrev pub IsNextCounted : {I : Type 0} → CollationSource → ℕ → Option �
 IsNextCounted source end numeric steps text old result chars class =
     (before : List ℕ) × (counted_primaries end before ≡ counted_primaries end old) × IsNextPrimary source numeric steps text before result chars class
 
--- Two texts were read up to primaries that are alike so far, where they count, each behind a character of a class; these elements were
+-- Two texts were read up to primaries that are alike so far, where they count, each after a character of a class; these elements were
 -- read.
 pub record AreReadAlike {I J : Type 0} (source : CollationSource) (end : ℕ) (numeric : Option ℕ) (left_steps : I → Option ℕ → I → Type 0) (right_steps : J → Option ℕ → J → Type 0) (a b : List ℕ) (left : I) (right : J) (left_class right_class : ℕ) (lefts rights : List ℕ) : Type 0 where
   pub left_read : IsReadUpTo source numeric left_steps a left left_class lefts
@@ -133,7 +133,7 @@ pub record AreOrders (options : ResolvedCollatorOptions) (first second : ℕ) (s
   pub by_secondaries : secondaries ≡ nat_cmp secondary other
   pub by_tertiaries : tertiaries ≡ nat_cmp tertiary further
 
--- secondaries and tertiaries alone count behind the primaries, both in the order of the text
+-- secondaries and tertiaries alone count after the primaries, both in the order of the text
 pub record HasTwoLevels (collation : Collation) (options : ResolvedCollatorOptions) : Type 0 where
   pub forward : collation.backward ≡ false
   pub uncased : has_case_level options.case_level ≡ false

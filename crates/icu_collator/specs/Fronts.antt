@@ -1,4 +1,4 @@
--- What two texts have in common at their beginnings, and places at which both may be read from.
+-- What two texts have in common at their beginnings, and indices at which both may be read from.
 use Rattle.std.specs.List.{AllByRecursion}
 use Rattle.std.specs.Prelude.{◌≡◌, ℕ, ◌≤◌, ◌⊎◌, List, [], ◌∷◌, ◌++◌, length, Option, None, MatchOption}
 
@@ -6,7 +6,7 @@ use Rattle.std.specs.Prelude.{◌≡◌, ℕ, ◌≤◌, ◌⊎◌, List, [], �
 abbrev pub BeginsWith : Option ℕ → List ℕ → Type 0
 BeginsWith first text = MatchOption first (text ≡ []) (λ c. (rest : List ℕ) × (text ≡ c ∷ rest))
 
--- Two texts have a front in common, of so many characters at least, and these are the characters behind it. They differ, but
+-- Two texts have a front in common, of so many characters at least, and these are the characters after it. They differ, but
 -- where both texts end.
 pub record PartAt (a b : List ℕ) (common : ℕ) (left right : Option ℕ) : Type 0 where
   pub front : List ℕ
@@ -19,9 +19,9 @@ pub record PartAt (a b : List ℕ) (common : ℕ) (left right : Option ℕ) : Ty
   pub count : common ≤ length front
   pub differ : left ≡ right → left ≡ None
 
--- Three characters that pass stand in a text, the first of them at this place, all within its first so many characters. What
+-- Three characters that pass stand in a text, the first of them at this index, all within its first so many characters. What
 -- stands between them goes on.
-pub record ThreeStandAt (Passes GoesOn : ℕ → Type 0) (text : List ℕ) (common place : ℕ) : Type 0 where
+pub record ThreeStandAt (Passes GoesOn : ℕ → Type 0) (text : List ℕ) (common index : ℕ) : Type 0 where
   pub before : List ℕ
   pub first : ℕ
   pub between : List ℕ
@@ -30,7 +30,7 @@ pub record ThreeStandAt (Passes GoesOn : ℕ → Type 0) (text : List ℕ) (comm
   pub third : ℕ
   pub behind : List ℕ
   pub text_is : text ≡ before ++ first ∷ (between ++ second ∷ (further ++ third ∷ behind))
-  pub place_is : length before ≡ place
+  pub place_is : length before ≡ index
   pub within : length (before ++ first ∷ (between ++ second ∷ (further ++ third ∷ []))) ≤ common
   pub first_passes : Passes first
   pub between_goes_on : AllByRecursion GoesOn between
@@ -38,6 +38,6 @@ pub record ThreeStandAt (Passes GoesOn : ℕ → Type 0) (text : List ℕ) (comm
   pub further_goes_on : AllByRecursion GoesOn further
   pub third_passes : Passes third
 
--- the beginning, or a place from which on three characters stand that pass
+-- the beginning, or an index from which on three characters stand that pass
 abbrev pub IsPlaceToBegin : (Passes GoesOn : ℕ → Type 0) → List ℕ → ℕ → ℕ → Type 0
-IsPlaceToBegin Passes GoesOn text common place = (place ≡ 0) ⊎ ThreeStandAt Passes GoesOn text common place
+IsPlaceToBegin Passes GoesOn text common index = (index ≡ 0) ⊎ ThreeStandAt Passes GoesOn text common index

@@ -1,5 +1,5 @@
 -- How the bytes of keys are written in one pass: levels by the ranks of their weights, and primaries by the run that each
--- leaves behind.
+-- leaves after.
 use Rattle.std.specs.Prelude.{◌≡◌, ℕ, ◌+◌, ◌-◌, ◌/◌, ◌^◌, ◌<◌, ◌≤◌, Bool, true, cond, not, ◌==◌, ◌&&◌, ltb, List, [], ◌∷◌, ◌++◌, Option, Some, None, drop, length}
 use Rattle.std.specs.List.{cons_option, list_all}
 use Rattle.icu_collator_core.specs.Collation.{Collation}
@@ -25,13 +25,13 @@ pub record AddsPrimary (starts_run : ℕ → Bool) (given : Option ℕ) (run : O
       ≡ before ++ codes_from primary_code (primary_run starts_run) run (cons_option given ps)
   pub goes_on : IsRun starts_run now
 
--- What the elements from one place up to another give was added to the primary level, and the run before it is there behind it.
+-- What the elements from one place up to another give was added to the primary level, and the run before it is there after it.
 pub record IsWrittenUpTo (collation : Collation) (end : ℕ) (items : List ℕ) (run : Option ℕ) (from : ℕ) (before : List ℕ) (behind : ℕ) (after : List ℕ) : Type 0 where
   pub onward : from ≤ behind
   pub level : after ++ codes_from primary_code (primary_run (was_compressible collation)) run (primaries_by collation (counted_list end (drop behind items)))
       ≡ before ++ codes_from primary_code (primary_run (was_compressible collation)) run (primaries_by collation (counted_list end (drop from items)))
 
--- What the elements from one place up to another give was added to the primary level behind a run, and this run is there behind it.
+-- What the elements from one place up to another give was added to the primary level after a run, and this run is there after it.
 pub record IsWrittenOn (collation : Collation) (end : ℕ) (items : List ℕ) (run : Option ℕ) (from : ℕ) (before : List ℕ) (now : Option ℕ) (behind : ℕ) (after : List ℕ) : Type 0 where
   pub within : behind ≤ length items
   pub goes_on : IsRun (was_compressible collation) now

@@ -27,4 +27,4 @@ pub mod FlatOrders
 pub mod CommonBoundaries
 pub mod StretchedOrders
 pub mod Aheads
-pub mod ReadingPlaces
+pub mod ReadingStarts

@@ -1,4 +1,4 @@
--- What stands next in two texts behind what they have in common, and what it decides.
+-- What stands next in two texts after what they have in common, and what it decides.
 use Rattle.std.specs.Prelude.{◌≡◌, ℕ, All, List, Option, Some, None}
 use Rattle.std.specs.Char.{IsScalar}
 use Rattle.std.specs.declared.cmp.Ordering.{Ordering}

@@ -18,6 +18,6 @@ decomposed_units canonical units = encode_utf16_all (decomposed canonical (utf16
 abbrev pub composed_units : Canonical → List ℕ → List ℕ
 composed_units canonical units = encode_utf16_all (composed canonical (utf16_chars units))
 
--- a text in two parts, the first of which, with the form of the other behind it, is the form of the text
+-- a text in two parts, the first of which, with the form of the other after it, is the form of the text
 abbrev pub IsSplitFor : (List ℕ → List ℕ) → List ℕ → List ℕ → List ℕ → Type 0
 IsSplitFor form text prefix rest = prefix ++ form rest ≡ form text

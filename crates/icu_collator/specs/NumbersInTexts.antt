@@ -83,7 +83,7 @@ pub record AreDigitsApart (collation : Collation) : Type 0 where
 abbrev pub are_light : List Element → Bool
 are_light es = list_all (λ e. e.primary == 0) es
 
--- a dot above is recorded alone and behind no prefix, and without a primary weight
+-- a dot above is recorded alone and after no prefix, and without a primary weight
 pub record IsDotLight (weights : Weights) : Type 0 where
   pub elements : List Element
   pub is : weights.recorded [] (0x307 ∷ []) ≡ Some elements

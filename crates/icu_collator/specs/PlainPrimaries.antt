@@ -19,10 +19,10 @@ pub record IsPlain (lead end primary : ℕ) : Type 0 where
 abbrev pub GivesPlain : ℕ → ℕ → ℕ → Type 0
 GivesPlain lead end bits = bits / 2 ^ 32 ≢ 0 → IsPlain lead end (bits / 2 ^ 32)
 
--- the bytes of an element's primary behind so many that are left out; none where it has no primary
+-- the bytes of an element's primary after so many that are left out; none where it has no primary
 unfoldable pub own_bytes : ℕ → ℕ → List ℕ
 own_bytes left_out bits = cond (bits / 2 ^ 32 == 0) [] (drop left_out (primary_bytes (bits / 2 ^ 32)))
 
--- the elements from a place up to another
+-- the elements from an index up to another
 abbrev pub between : ℕ → ℕ → List ℕ → List ℕ
 between from behind items = take (behind - from) (drop from items)

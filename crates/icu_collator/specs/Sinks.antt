@@ -13,13 +13,13 @@ greatest_count = 2 ^ 64 - 1
 abbrev pub byte_count : List ℕ → ℕ
 byte_count bytes = min (length bytes) greatest_count
 
--- a slice after bytes were written from its beginning: as many of them as fit, and behind them what it held
+-- a slice after bytes were written from its beginning: as many of them as fit, and after them what it held
 abbrev pub overlaid : List ℕ → List ℕ → List ℕ
 overlaid old bytes = take (length old) bytes ++ drop (length bytes) old
 
--- a slice after bytes were written from a place: as many as fit from there, and all else as it was
+-- a slice after bytes were written from an index: as many as fit from there, and all else as it was
 abbrev pub written_at : List ℕ → ℕ → List ℕ → List ℕ
-written_at old place bytes = take place old ++ take (length old - place) bytes ++ drop (length bytes) (drop place old)
+written_at old index bytes = take index old ++ take (length old - index) bytes ++ drop (length bytes) (drop index old)
 
 -- a slice that bytes were handed to: the same one, with as many of them as fit
 pub record HasOverlaid (first : MutBor (List ℕ)) (bytes : List ℕ) (now : MutBor (List ℕ)) : Type 0 where

@@ -18,7 +18,7 @@ use Rattle.icu_collator.specs.declared.compare.flat.Meeting.TheVariants.{Alike, 
 abbrev pub met_primaries : ℕ → StretchedElements → ℕ → List ℕ
 met_primaries end s met = counted_primaries end (take met (settled_in s))
 
--- What comes next of a text, of whose elements so many were met: one with a primary that counts, behind which then so many are; or
+-- What comes next of a text, of whose elements so many were met: one with a primary that counts, after which then so many are; or
 -- none, where it is read to its end.
 abbrev pub IsSettledStep : {I : Type 0} → CollationSource → Option ℕ → (I → Option ℕ → I → Type 0) → ℕ → List ℕ → List ℕ → FlatStep → I → StretchedElements → ℕ → Type 0
 IsSettledStep source numeric steps end text before (Primary p) chars s met =
@@ -41,8 +41,8 @@ pub record AreMetAlike {I J : Type 0} (source : CollationSource) (numeric : Opti
   pub right_within : right_met ≤ length (settled_in rights)
   pub same : map (reordered_by source) (met_primaries end lefts left_met) ≡ map (reordered_by source) (met_primaries end rights right_met)
 
--- What two texts say that were read side by side, behind a front that they have in common: their order, where their primaries part;
--- or, where both are read to their ends, all elements behind the front are there.
+-- What two texts say that were read side by side, after a front that they have in common: their order, where their primaries part;
+-- or, where both are read to their ends, all elements after the front are there.
 abbrev pub IsRun : CollationSource → ResolvedCollatorOptions → List ℕ → List ℕ → List ℕ → StretchedElements → StretchedElements → Meeting → Type 0
 IsRun source options front a b lefts rights (Parted order) = order ≡ collation_order (source_collation source) options (front ++ a) (front ++ b)
 IsRun source options front a b lefts rights BothEnd =

@@ -14,9 +14,9 @@ mod syllables;
 
 pub(crate) use differences::{FirstDifference, first_difference};
 pub(crate) use ordering::order_by_difference;
-pub(crate) use passage::reading_place;
+pub(crate) use passage::reading_start;
 
-/// What an iterator has yet to give behind so many characters. No memory is taken.
+/// What an iterator has yet to give after so many characters. No memory is taken.
 pub(crate) fn behind<I: Iterator<Item = char> + Drop>(chars: I, count: usize) -> I
     requires can { I.can_next chars }
     requires finite { IsFinite (I.remaining chars) }

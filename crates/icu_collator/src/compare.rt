@@ -13,4 +13,4 @@ mod orders;
 mod stretched;
 mod weights;
 
-pub(crate) use encoded::{common_place, compare_texts};
+pub(crate) use encoded::{common_start, compare_texts};

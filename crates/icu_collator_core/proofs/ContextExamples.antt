@@ -1,4 +1,4 @@
--- Characters of units, and the rules on what stands behind and before a character.
+-- Characters of units, and the rules on what follows and before a character.
 use Rattle.std.proofs.Common.{◌≡◌, ℕ, ℤ, Bool, true, false, cond, not, ◌||◌, ◌==◌, Some, None, List, [], ◌∷◌, refl, sym, subst, ◌∙◌}
 use Rattle.std.specs.Bool.{IsTrue}
 use Rattle.std.proofs.lemmas.Bool.{false_from_ne_true, false≢true, not_from_false, not_from_true}

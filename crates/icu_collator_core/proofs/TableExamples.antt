@@ -3,7 +3,7 @@ use Rattle.std.proofs.Common.{◌≡◌, ℕ, ◌||◌, cond, ◌==◌, true, fa
 use Rattle.std.specs.List.{range_with_len}
 use Rattle.icu_char16trie.specs.Cursors.{value_of_key}
 use Rattle.icu_char16trie.specs.UnitSteps.{small_part, target_in}
-use Rattle.icu_codepointtrie.specs.Places.{TrieTables}
+use Rattle.icu_codepointtrie.specs.Slots.{TrieTables}
 use Rattle.icu_codepointtrie.specs.declared.trie.TrieType.TheVariants.{Small}
 use Rattle.icu_normalizer_core.specs.Canonical.{Canonical}
 use Rattle.icu_collator_types.specs.declared.elements.Element.{Element}
@@ -30,7 +30,7 @@ computing = tt
 
 -- ---- Forms of words
 
--- Two elements and a range; four words; a context of what stands behind ("b") and one of what stands before ("a", "b").
+-- Two elements and a range; four words; a context of what stands after ("b") and one of what stands before ("a", "b").
 few : Pools
 few = record {
   ces = 0x2a10_0000_0500_0500 ∷ 0x8800_8540 ∷ 0xe002_0200_004e_0001 ∷ [];

@@ -1,11 +1,11 @@
--- Words of each form, words of none, and places in lists and past them.
+-- Words of each form, words of none, and indices in lists and past them.
 use Rattle.std.proofs.Common.{◌≡◌, true, false, [], ◌∷◌, refl}
 use Rattle.icu_collator_types.specs.declared.elements.word_tags.Tag.TheVariants.{Contraction}
 use Rattle.icu_collator_core.specs.declared.check.layers.Layer.TheVariants.{Root, Tailoring}
 use Rattle.icu_collator_core.specs.Defaults.{special_primary}
 use Rattle.icu_collator_core.specs.Pools.{Pools}
 use Rattle.icu_collator_core.specs.WordForms.{has_form, is_digit_word, is_fallback, is_own_word, keeps_special}
-use Rattle.icu_collator_core.specs.WordPlaces.{has_context, has_digit_word, has_items}
+use Rattle.icu_collator_core.specs.WordIndices.{has_context, has_digit_word, has_items}
 
 -- one element; three words, the last of an expansion; a context of one suffix
 some : Pools
@@ -101,7 +101,7 @@ context : has_context some 0xc9 ≡ true
 unfolding some
 context = refl
 
--- a default word, and nothing behind it
+-- a default word, and nothing after it
 no_units : has_context some 0xa0c9 ≡ false
 unfolding some
 no_units = refl

@@ -3,4 +3,4 @@ pub mod DigitPairLemmas
 pub mod NumberBytesLemmas
 pub mod NumberOrderLemmas
 pub mod NumberPartLemmas
-pub mod PairPlaceLemmas
+pub mod PairIndexLemmas

@@ -7,7 +7,7 @@ use Rattle.icu_collator_core.specs.declared.check.TableFault.TheVariants.{Trie, 
 use Rattle.icu_collator_core.specs.declared.tables.CollationTables.{CollationTables}
 use Rattle.icu_collator_core.specs.ContextFaults.{HasContexts}
 use Rattle.icu_collator_core.specs.PrefixFaults.{AreWeightsApart}
-use Rattle.icu_collator_core.specs.TableFaults.{AllPassIn, HasCell, HasPlaces, HasWord, IsFirstRefused}
+use Rattle.icu_collator_core.specs.TableFaults.{AllPassIn, HasCell, HasIndices, HasWord, IsFirstRefused}
 use Rattle.icu_collator_core.specs.WeightFaults.{AreSoundJamo, AreSoundSpecialPrimaries, HasSoundReordering, IsJamoFault, are_sound_diacritics}
 use Rattle.icu_collator_core.specs.WordWeights.{HasWeights}
 
@@ -15,7 +15,7 @@ use Rattle.icu_collator_core.specs.WordWeights.{HasWeights}
 pub record HaveSoundWords (canonical : Canonical) (tables : CollationTables) : Type 0 where
   pub cells : AllPassIn tables HasCell
   pub words : AllPassIn tables HasWord
-  pub places : AllPassIn tables HasPlaces
+  pub indices : AllPassIn tables HasIndices
   pub contexts : AllPassIn tables (HasContexts canonical tables)
   pub weights : AllPassIn tables (HasWeights tables.special_primaries)
 
@@ -28,22 +28,22 @@ pub record IsAccepted (canonical : Canonical) (tables : CollationTables) : Type 
   pub reordering : HasSoundReordering tables
   pub special_primaries : AreSoundSpecialPrimaries tables.special_primaries
 
--- the first fault of tables; want of memory is none of theirs
+-- the first fault of tables; refused memory is none of theirs
 abbrev pub IsFirstFault : Canonical → CollationTables → TableFault → Type 0
 IsFirstFault canonical tables (Trie c) = IsFirstRefused tables HasCell c
 IsFirstFault canonical tables (Word c) = AllPassIn tables HasCell × IsFirstRefused tables HasWord c
-IsFirstFault canonical tables (Index c) = AllPassIn tables HasCell × AllPassIn tables HasWord × IsFirstRefused tables HasPlaces c
+IsFirstFault canonical tables (Index c) = AllPassIn tables HasCell × AllPassIn tables HasWord × IsFirstRefused tables HasIndices c
 IsFirstFault canonical tables (Context c) =
-    AllPassIn tables HasCell × AllPassIn tables HasWord × AllPassIn tables HasPlaces
+    AllPassIn tables HasCell × AllPassIn tables HasWord × AllPassIn tables HasIndices
     × IsFirstRefused tables (HasContexts canonical tables) c
 IsFirstFault canonical tables (Weight c) =
-    AllPassIn tables HasCell × AllPassIn tables HasWord × AllPassIn tables HasPlaces × AllPassIn tables (HasContexts canonical tables)
+    AllPassIn tables HasCell × AllPassIn tables HasWord × AllPassIn tables HasIndices × AllPassIn tables (HasContexts canonical tables)
     × IsFirstRefused tables (HasWeights tables.special_primaries) c
 IsFirstFault canonical tables PrefixOfWeight = HaveSoundWords canonical tables × (AreWeightsApart tables → ⊥)
 IsFirstFault canonical tables Diacritics =
     HaveSoundWords canonical tables × AreWeightsApart tables × (are_sound_diacritics tables ≡ false)
-IsFirstFault canonical tables (Jamo place) =
-    HaveSoundWords canonical tables × AreWeightsApart tables × (are_sound_diacritics tables ≡ true) × IsJamoFault tables place
+IsFirstFault canonical tables (Jamo index) =
+    HaveSoundWords canonical tables × AreWeightsApart tables × (are_sound_diacritics tables ≡ true) × IsJamoFault tables index
 IsFirstFault canonical tables Reordering =
     HaveSoundWords canonical tables × AreWeightsApart tables × (are_sound_diacritics tables ≡ true) × AreSoundJamo tables
     × (HasSoundReordering tables → ⊥)

@@ -13,12 +13,12 @@ AreAlike weights (p ∷ ps) [] = ⊥
 AreAlike weights (p ∷ ps) (q ∷ qs) =
     (p.character ≡ q.character) × (prefix_match weights p ≡ prefix_match weights q) × AreAlike weights ps qs
 
--- which record of a character behind a prefix counts at a place of a list is the same whatever stands before the list
+-- which record of a character after a prefix counts at an index of a list is the same whatever stands before the list
 abbrev pub IsToldAt : Weights → List ℕ → ℕ → ℕ → Type 0
-IsToldAt weights list place c =
+IsToldAt weights list index c =
     (further : List ℕ) → scalars further ≡ true
-    → prefix_match weights (record { character = c; before = characters_behind further list place })
-    ≡ prefix_match weights (record { character = c; before = characters_before list place })
+    → prefix_match weights (record { character = c; before = characters_behind further list index })
+    ≡ prefix_match weights (record { character = c; before = characters_before list index })
 
 -- a list is read alike whatever stands before it
 abbrev pub IsToldAlone : Weights → List ℕ → Type 0

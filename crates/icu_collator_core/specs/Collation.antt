@@ -18,7 +18,7 @@ pub record Collation : Type 0 where
 
 -- a primary with another lead byte in the place of its own, and the same rest
 abbrev pub with_lead : (ℕ → ℕ) → ℕ → ℕ
-with_lead place p = place (p / 2 ^ 24) * 2 ^ 24 + p % 2 ^ 24
+with_lead index p = index (p / 2 ^ 24) * 2 ^ 24 + p % 2 ^ 24
 
 -- the lead byte that stands in the place of another, by the primary of that one alone
 abbrev pub reordered_lead : Collation → ℕ → ℕ

@@ -1,4 +1,4 @@
--- Notes of characters, each at the place that is its code.
+-- Notes of characters, each at the index that is its code.
 use Rattle.std.specs.Prelude.{◌≡◌, ℕ, List, [], ◌∷◌, get_or}
 use Rattle.icu_normalizer_core.specs.Canonical.{Canonical}
 use Rattle.icu_collator_core.specs.Acceptance.{CollationSource}
@@ -26,6 +26,6 @@ IsNoted source c Beginning = IsOwnBeginning (canonical_by source) (weights_of (c
 IsNoted source c (Alone bits) = IsAloneAnywhere source c bits
 IsNoted source c (Plain bits) = IsPlainCharacter source c bits
 
--- notes, each at the place that is its character's code
+-- notes, each at the index that is its character's code
 abbrev pub AreNoted : CollationSource → List CollationNote → Type 0
 AreNoted source notes = (c : ℕ) → IsNoted source c (get_or notes c Other)

@@ -73,7 +73,7 @@ is_recorded_shorter canonical is_recorded c suffix =
 abbrev pub longest_suffix : ℕ
 longest_suffix = 7
 
--- what may stand behind a character
+-- what may stand after a character
 abbrev pub is_suffix : Canonical → (List ℕ → List ℕ → Bool) → ℕ → List ℕ → Bool
 is_suffix canonical is_recorded c suffix =
     leb (length suffix) longest_suffix
@@ -116,7 +116,7 @@ SomeKeyPasses passes units = KeysPass (λ cs. not (passes cs)) units → ⊥
 
 -- the flags of a contraction
 abbrev pub has_flag : ℕ → ℕ → Bool
-has_flag place word = word / 2 ^ place % 2 == 1
+has_flag index word = word / 2 ^ index % 2 == 1
 
 -- each flag is set just where what it says is so: each suffix begins with a mark, one ends in a mark, one holds a starter
 pub record AreFlagsTrue (canonical : Canonical) (word : ℕ) (units : List ℕ) : Type 0 where

@@ -7,6 +7,6 @@ use Rattle.icu_collator_core.specs.Pools.{element_of}
 abbrev pub unpacked : List ℕ → List Element
 unpacked items = map element_of items
 
--- these elements stand behind those that were there
+-- these elements stand after those that were there
 abbrev pub AddsElements : List ℕ → List Element → List ℕ → Type 0
 AddsElements old elements new = unpacked new ≡ unpacked old ++ elements

@@ -13,7 +13,7 @@ use Rattle.icu_collator_core.specs.ReadSources.{canonical_by, weights_by}
 use Rattle.icu_collator_core.specs.declared.notes.flat_note.FlatNote.{FlatNote}
 use Rattle.icu_collator_core.specs.declared.notes.flat_note.FlatNote.TheVariants.{Other, Boundary, One, Digit, Two}
 
--- A character of a decomposed list is read alone, with one element, these 64 bits, whatever stands before and behind it; digits
+-- A character of a decomposed list is read alone, with one element, these 64 bits, whatever stands before and after it; digits
 -- count where a lead byte of numbers is given.
 pub record IsReadFlat (source : CollationSource) (numeric : Option ℕ) (c bits : ℕ) : Type 0 where
   pub character : scalar c ≡ true
@@ -29,11 +29,11 @@ AreReadFlat source numeric [] (bits ∷ items) = ⊥
 AreReadFlat source numeric (c ∷ cs) [] = ⊥
 AreReadFlat source numeric (c ∷ cs) (bits ∷ items) = IsReadFlat source numeric c bits × AreReadFlat source numeric cs items
 
--- a character of a class may stand behind one of another: it is a starter, or its class isn't lower
+-- a character of a class may stand after one of another: it is a starter, or its class isn't lower
 abbrev pub MayFollow : ℕ → ℕ → Type 0
 MayFollow before class = (class ≡ 0) ⊎ (before ≤ class)
 
--- characters behind one of this class: marks stand in their order
+-- characters after one of this class: marks stand in their order
 abbrev pub StandInOrder : (ℕ → ℕ) → ℕ → List ℕ → Type 0
 StandInOrder class before [] = Unit {0}
 StandInOrder class before (c ∷ cs) = MayFollow before (class c) × StandInOrder class (class c) cs
@@ -50,7 +50,7 @@ abbrev pub IsBoundaryApart : CollationSource → Option ℕ → ℕ → Type 0
 IsBoundaryApart source numeric d =
     IsBoundary (canonical_by source) (weights_by numeric source) d × IsApart (weights_by numeric source) (is_some numeric) d
 
--- Whether characters may stand behind others: anything may behind a class of a character, which is at most 255. Where the
+-- Whether characters may stand after others: anything may after a class of a character, which is at most 255. Where the
 -- number is greater, nothing stands there, or a boundary.
 abbrev pub MayStandBehind : CollationSource → Option ℕ → ℕ → List ℕ → Type 0
 MayStandBehind source numeric class [] = Unit {0}
@@ -60,7 +60,7 @@ MayStandBehind source numeric class (d ∷ ds) = (class ≤ 255) ⊎ IsBoundaryA
 abbrev pub IsUncounted : CollationSource → Option ℕ → ℕ → Type 0
 IsUncounted source numeric c = (is_some numeric && is_some ((weights_by numeric source).digit c)) ≡ false
 
--- behind a class may stand what begins with a character, and marks are in order up to it
+-- after a class may stand what begins with a character, and marks are in order up to it
 abbrev pub MayBegin : CollationSource → Option ℕ → ℕ → ℕ → Type 0
 MayBegin source numeric before c = MayFollow before ((canonical_by source).class c) × MayStandBehind source numeric before (c ∷ [])
 
@@ -69,19 +69,19 @@ pub record IsSteady (source : CollationSource) (c : ℕ) : Type 0 where
   pub unprefixed : IsUnprefixed (weights_by None source) c
   pub uncounted : (weights_by None source).digit c ≡ None
 
--- the elements of characters that stand behind others, the nearest of these first
+-- the elements of characters that stand after others, the nearest of these first
 abbrev pub elements_behind : CollationSource → Option ℕ → List ℕ → List ℕ → List Element
 elements_behind source numeric before list =
     elements_within (length list) (canonical_by source) (weights_by numeric source) (is_some numeric) (placed_behind before list)
 
--- Characters have these elements whatever stands before them, and whatever may stand behind a class stands there.
+-- Characters have these elements whatever stands before them, and whatever may stand after a class stands there.
 abbrev pub AreReadBefore : CollationSource → Option ℕ → List ℕ → ℕ → List ℕ → Type 0
 AreReadBefore source numeric list class items =
     (before later : List ℕ) → scalars before ≡ true → scalars later ≡ true → MayStandBehind source numeric class later
     → elements_behind source numeric before (list ++ later)
     ≡ unpacked items ++ elements_behind source numeric (after before list) later
 
--- Characters stand in order and have these elements, where what follows may stand behind this class: that of the last character,
+-- Characters stand in order and have these elements, where what follows may stand after this class: that of the last character,
 -- 0 where there is none; where the number is above 255, no class.
 pub record IsReadInOrder (source : CollationSource) (numeric : Option ℕ) (list : List ℕ) (class : ℕ) (items : List ℕ) : Type 0 where
   pub characters : scalars list ≡ true
@@ -98,7 +98,7 @@ pub record BeginsApart (source : CollationSource) (numeric : Option ℕ) (c : �
 
 -- ## Notes
 
--- A character that stands behind others, the last with a class, has these elements, where what follows may stand behind another
+-- A character that stands after others, the last with a class, has these elements, where what follows may stand after another
 -- class: that of the last of its full list, if it is one. There each character of its full list is read alone.
 pub record IsFlat (source : CollationSource) (numeric : Option ℕ) (c before : ℕ) (items : List ℕ) (trail : ℕ) : Type 0 where
   pub first : ℕ
@@ -111,7 +111,7 @@ pub record IsFlat (source : CollationSource) (numeric : Option ℕ) (c before : 
   pub alone : trail ≤ 255 → AreReadFlat source numeric (first ∷ rest) items
   pub read : AreReadBefore source numeric (first ∷ rest) trail items
 
--- so it is behind each class up to this one
+-- so it is after each class up to this one
 abbrev pub IsFlatUpTo : CollationSource → Option ℕ → ℕ → List ℕ → ℕ → ℕ → Type 0
 IsFlatUpTo source numeric c items lead trail = (before : ℕ) → before ≤ lead → IsFlat source numeric c before items trail
 
@@ -123,7 +123,7 @@ IsFlatNote source c (One bits lead trail) = (numeric : Option ℕ) → IsFlatUpT
 IsFlatNote source c (Digit bits lead trail) = IsFlatUpTo source None c (bits ∷ []) lead trail
 IsFlatNote source c (Two first second lead trail) = (numeric : Option ℕ) → IsFlatUpTo source numeric c (first ∷ second ∷ []) lead trail
 
--- notes, each at the place that is its character's code
+-- notes, each at the index that is its character's code
 abbrev pub AreFlatNotes : CollationSource → List FlatNote → Type 0
 AreFlatNotes source notes = (c : ℕ) → IsFlatNote source c (get_or notes c Other)
 

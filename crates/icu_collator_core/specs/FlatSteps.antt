@@ -40,18 +40,18 @@ pub record IsStep (source : CollationSource) (numeric : Option ℕ) (c before : 
   pub primaries : primaries_in pushed.items ≡ primary_if_any p
   pub begins : (p == 0) ≡ false → trail ≤ 255 → BeginsWithStarter source numeric pushed.flat.first p pushed.items
 
--- A character behind one of a class has this primary, 0 for none, and the last of its full list this class, whatever elements
+-- A character after one of a class has this primary, 0 for none, and the last of its full list this class, whatever elements
 -- stand before its own.
 abbrev pub StepsTo : CollationSource → Option ℕ → ℕ → ℕ → ℕ → ℕ → Type 0
 StepsTo source numeric c before p trail = (old : List ℕ) → (new : List ℕ) × IsStep source numeric c before old p trail new
 
--- next comes the end of a text, or a character that may stand behind this class
+-- next comes the end of a text, or a character that may stand after this class
 abbrev pub IsFollowed : CollationSource → Option ℕ → ℕ → Option ℕ → Type 0
 IsFollowed source numeric class None = Unit {0}
 IsFollowed source numeric class (Some c) = (p : ℕ) × (trail : ℕ) × StepsTo source numeric c class p trail
 
--- Of a text, the full lists of its first characters are in order and have these elements, where what follows may stand behind
--- this class. The characters behind are left to an iterator.
+-- Of a text, the full lists of its first characters are in order and have these elements, where what follows may stand after
+-- this class. The characters after are left to an iterator.
 pub record IsReadUpTo {I : Type 0} (source : CollationSource) (numeric : Option ℕ) (steps : I → Option ℕ → I → Type 0) (text : List ℕ) (chars : I) (class : ℕ) (items : List ℕ) : Type 0 where
   pub list : List ℕ
   pub rest : List ℕ
@@ -77,7 +77,7 @@ IsNextStep source numeric steps text old End chars class new =
     (unpacked new ≡ text_elements source numeric text) × (primaries_in new ≡ primaries_in old)
 IsNextStep source numeric steps text old Other chars class new = Unit {0}
 
--- What comes next of a text of which these elements were read: so it is with some elements behind them.
+-- What comes next of a text of which these elements were read: so it is with some elements after them.
 abbrev pub IsNextPrimary : {I : Type 0} → CollationSource → Option ℕ → (I → Option ℕ → I → Type 0) → List ℕ → List ℕ → FlatStep → I → ℕ → Type 0
 IsNextPrimary source numeric steps text old result chars class =
     (new : List ℕ) × IsNextStep source numeric steps text old result chars class new

@@ -18,7 +18,7 @@ pub mod TableSettings
 pub mod CompressibleLeads
 pub mod TableMeaning
 pub mod WordForms
-pub mod WordPlaces
+pub mod WordIndices
 pub mod UnrecordedWords
 pub mod TableFaults
 pub mod ContextRules

@@ -35,7 +35,7 @@ abbrev pub ends_run : (ℕ → ℕ) → List Placed → Bool
 ends_run class [] = true
 ends_run class (p ∷ ps) = class p.character == 0
 
--- A text that marks joined, with those left between: what stands behind joins it as all joined the text that it was.
+-- A text that marks joined, with those left between: what stands after joins it as all joined the text that it was.
 pub record HasJoinedTo (canonical : Canonical) (weights : Weights) (entry : TableWord) (c : ℕ) (text : MarkedText) (between behind : List Placed) (whole : Joining) : Type 0 where
   pub joined : List ℕ
   pub stands : IsAtText (suffix_units entry) joined text.cursor
@@ -92,7 +92,7 @@ HavePushed entry c old new ready after =
     → scalars (characters_of behind) ≡ true
     → HasPushed canonical weights c here behind new ready after
 
--- a reading gave these elements, and left what is left of a run with what stands behind it
+-- a reading gave these elements, and left what is left of a run with what stands after it
 pub record HasReadFirst (first : Reading) (behind : List Placed) (classes : List ClassMarks) (ready after : List ℕ) : Type 0 where
   pub between : List Placed
   pub elements : AddsElements ready first.elements after

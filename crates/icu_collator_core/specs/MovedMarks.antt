@@ -12,7 +12,7 @@ moves_marks class (c ∷ cs) [] = false
 moves_marks class (c ∷ cs) (d ∷ ds) =
     ((c == d) || (not (class c == 0) && not (class d == 0))) && moves_marks class cs ds
 
--- a recorded prefix has starters only, and so has what is recorded behind it
+-- a recorded prefix has starters only, and so has what is recorded after it
 pub record KnowNoMarksBefore (class : ℕ → ℕ) (weights : Weights) : Type 0 where
   pub at : (b : ℕ) (bs : List ℕ) (c : ℕ) → is_some (weights.recorded (b ∷ bs) (c ∷ [])) ≡ true
       → (class c ≡ 0) × (list_all (λ d. class d == 0) (b ∷ bs) ≡ true)

@@ -16,7 +16,7 @@ pub record IsPushedWith (source : CollationSource) (numeric : Option ℕ) (c bef
   pub pushed : IsPushed source numeric c before old next.class new
   pub primaries : primaries_in new ≡ primaries_in old ++ primaries_listed next
 
--- a character behind one of a class has these, whatever elements stand before its own
+-- a character after one of a class has these, whatever elements stand before its own
 abbrev pub HasPrimaries : CollationSource → Option ℕ → ℕ → ℕ → NextPrimaries → Type 0
 HasPrimaries source numeric c before next = (old : List ℕ) → (new : List ℕ) × IsPushedWith source numeric c before old next new
 
@@ -26,7 +26,7 @@ pub record HavePrimaries (source : CollationSource) (first second : ℕ) (next :
   pub pair : IsPair source first second items next.class
   pub primaries : primaries_in items ≡ primaries_listed next
 
--- the full list of a character begins with a starter, and it may stand behind one of a class
+-- the full list of a character begins with a starter, and it may stand after one of a class
 pub record StartsBehind (source : CollationSource) (numeric : Option ℕ) (c class : ℕ) : Type 0 where
   pub first : ℕ
   pub rest : List ℕ

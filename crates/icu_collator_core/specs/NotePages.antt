@@ -1,4 +1,4 @@
--- Notes of characters in pages of 64, each at the place that is its page's number.
+-- Notes of characters in pages of 64, each at the index that is its page's number.
 use Rattle.std.specs.Prelude.{ℕ, ◌+◌, ◌*◌, List, [], get_or}
 use Rattle.icu_collator_core.specs.Acceptance.{CollationSource}
 use Rattle.icu_collator_core.specs.FlatNotes.{IsFlatNote}
@@ -7,7 +7,7 @@ use Rattle.icu_collator_core.specs.declared.notes.flat_note.FlatNote.TheVariants
 
 -- notes of a page's characters, in their order
 abbrev pub IsNotePage : CollationSource → ℕ → List FlatNote → Type 0
-IsNotePage source page notes = (place : ℕ) → IsFlatNote source (page * 64 + place) (get_or notes place Other)
+IsNotePage source page notes = (index : ℕ) → IsFlatNote source (page * 64 + index) (get_or notes index Other)
 
 -- pages, in their order
 abbrev pub AreNotePages : CollationSource → List (List FlatNote) → Type 0

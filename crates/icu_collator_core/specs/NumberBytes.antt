@@ -1,4 +1,4 @@
--- The bytes behind the lead byte, of a number of many digits.
+-- The bytes after the lead byte, of a number of many digits.
 use Rattle.std.specs.Prelude.{◌≡◌, ℕ, ◌+◌, ◌/◌, ◌%◌, true, cond, ◌==◌, leb, List, ◌∷◌, length}
 use Rattle.std.specs.List.{list_all}
 use Rattle.icu_collator_core.specs.Numbers.{pairs_of, without_last_zeros, pair_bytes}

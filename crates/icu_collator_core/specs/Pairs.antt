@@ -14,7 +14,7 @@ use Rattle.icu_collator_core.specs.declared.notes.pairs.PairNote.{PairNote}
 use Rattle.icu_collator_core.specs.declared.notes.pairs.PairNotes.{PairNotes}
 
 -- Two characters, of which the full list of the first begins with a boundary, and the second is its own, have these elements
--- together, whatever stands before them, where what follows may stand behind this class: that of the second, if it is one.
+-- together, whatever stands before them, where what follows may stand after this class: that of the second, if it is one.
 pub record IsPair (source : CollationSource) (first second : ℕ) (items : List ℕ) (trail : ℕ) : Type 0 where
   pub head : ℕ
   pub rest : List ℕ

@@ -1,4 +1,4 @@
--- Characters that are read alone, whatever stands before or behind them.
+-- Characters that are read alone, whatever stands before or after them.
 use Rattle.std.specs.Prelude.{◌≡◌, ℕ, true, List, [], ◌∷◌, None}
 use Rattle.std.specs.Option.{unwrap_or}
 use lib.Utf8.{scalars}

@@ -1,5 +1,5 @@
--- The lists that words of collation tables name places in, and what a word says by what stands there. What stands past the
--- end of a list is 0, or is left out; the check of tables asks that no word names such a place.
+-- The lists that words of collation tables name indices in, and what a word says by what stands there. What stands past the
+-- end of a list is 0, or is left out; the check of tables asks that no word names such an index.
 use Rattle.std.specs.Prelude.{ℕ, ◌+◌, ◌-◌, ◌*◌, ◌/◌, ◌%◌, ◌^◌, cond, ◌==◌, List, [], ◌∷◌, map, filter_map, flat_map, reverse, drop, slice_index, Option, Some, None, option_map}
 use Rattle.std.specs.Int.{cast_unsigned, w32}
 use Rattle.icu_char16trie.specs.Cursors.{units_of, value_of_key}
@@ -19,7 +19,7 @@ pub record Pools : Type 0 where
 
 -- ## The fields of a word
 
--- the place that a word names
+-- the index that a word names
 abbrev pub index_of : ℕ → ℕ
 index_of word = word / 2 ^ 13
 
@@ -76,34 +76,34 @@ offset_primary bits c =
 
 -- the word that counts in a context where nothing in its trie does
 abbrev pub default_word : List ℕ → ℕ → ℕ
-default_word contexts place = slice_index contexts place * 2 ^ 16 + slice_index contexts (place + 1)
+default_word contexts index = slice_index contexts index * 2 ^ 16 + slice_index contexts (index + 1)
 
--- the units of a context's trie, and all that stands behind it
+-- the units of a context's trie, and all that stands after it
 abbrev pub trie_of : List ℕ → ℕ → List ℕ
-trie_of contexts place = drop (place + 2) contexts
+trie_of contexts index = drop (index + 2) contexts
 
 -- the word that a context has for characters
 unfoldable pub word_in_context : List ℕ → ℕ → List ℕ → Option ℕ
-word_in_context contexts place cs = option_map (cast_unsigned w32) (value_of_key (trie_of contexts place) (flat_map units_of cs))
+word_in_context contexts index cs = option_map (cast_unsigned w32) (value_of_key (trie_of contexts index) (flat_map units_of cs))
 
 -- the word where no prefix counts
 unfoldable pub unprefixed_word : Pools → ℕ → ℕ
 unprefixed_word pools word = cond (has_tag Prefix word) (default_word pools.contexts (index_of word)) word
 
--- the word of a character by itself, no prefix before it and no suffix behind it, and not read as a digit
+-- the word of a character by itself, no prefix before it and no suffix after it, and not read as a digit
 unfoldable pub lone_word : Pools → ℕ → ℕ
 lone_word pools word =
     let unprefixed = unprefixed_word pools word
     in cond (has_tag Contraction unprefixed) (default_word pools.contexts (index_of unprefixed))
     (cond (has_tag Digit unprefixed) (slice_index pools.ce32s (index_of unprefixed)) unprefixed)
 
--- the word of a character with others behind it
+-- the word of a character with others after it
 unfoldable pub suffix_word : Pools → ℕ → List ℕ → Option ℕ
 suffix_word pools word suffix =
     let unprefixed = unprefixed_word pools word
     in cond (has_tag Contraction unprefixed) (word_in_context pools.contexts (index_of unprefixed) suffix) None
 
--- the word of a character behind others, which stand in its context the nearest first
+-- the word of a character after others, which stand in its context the nearest first
 unfoldable pub prefix_word : Pools → ℕ → List ℕ → Option ℕ
 prefix_word pools word prefix =
     cond (has_tag Prefix word) (word_in_context pools.contexts (index_of word) (reverse prefix)) None

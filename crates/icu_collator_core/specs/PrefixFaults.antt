@@ -25,7 +25,7 @@ HasValue pools word value =
     × MapsKey (trie_of pools.contexts (index_of word)) (at_node 0) key number
     × (cast_unsigned w32 number ≡ value)
 
--- the words within that of a character: by itself, before others, and behind others
+-- the words within that of a character: by itself, before others, and after others
 abbrev pub IsAmong : Pools → ℕ → ℕ → Type 0
 IsAmong pools word one =
     (one ≡ lone_word pools word)

@@ -21,14 +21,14 @@ weights_for numeric weights =
       dot_above = weights.dot_above;
     }
 
--- the elements of a list from a place on
+-- the elements of a list from an index on
 abbrev pub elements_from : Canonical → Weights → Bool → List ℕ → ℕ → List Element
-elements_from canonical weights numeric list place =
-    elements_within (length (drop place (placed list))) canonical weights numeric (drop place (placed list))
+elements_from canonical weights numeric list index =
+    elements_within (length (drop index (placed list))) canonical weights numeric (drop index (placed list))
 
--- a character at a place of a list, with what stands before it
+-- a character at an index of a list, with what stands before it
 abbrev pub placed_at : List ℕ → ℕ → ℕ → Placed
-placed_at list place c = record { character = c; before = characters_before list place }
+placed_at list index c = record { character = c; before = characters_before list index }
 
 -- the reading of a character that is neither special nor a digit that counts nor a dot that is dropped
 abbrev pub reading_in_context : Canonical → Weights → Placed → List Placed → Reading
@@ -38,12 +38,12 @@ reading_in_context canonical weights p ps =
       | None ↦ text_reading canonical weights p.character (p ∷ ps)
     ]
 
--- elements were added as this reading has them, and what it leaves is read as what stands in a list from a place on
+-- elements were added as this reading has them, and what it leaves is read as what stands in a list from an index on
 pub record IsReadAs (canonical : Canonical) (weights : Weights) (first : Reading) (ready : List ℕ) (list : List ℕ) (next : ℕ) (after : List ℕ) : Type 0 where
   pub elements : AddsElements ready first.elements after
   pub left : KnowNoMarksBefore canonical.class weights → AreAlike weights first.left (drop next (placed list))
 
--- what is ready, and what a list has from a place on, are together what they were before
+-- what is ready, and what a list has from an index on, are together what they were before
 abbrev pub IsRead : Canonical → Weights → Bool → List ℕ → ℕ → List Element → List ℕ → ℕ → List Element → Type 0
-IsRead canonical weights numeric old place ready new next after =
-    after ++ elements_from canonical weights numeric new next ≡ ready ++ elements_from canonical weights numeric old place
+IsRead canonical weights numeric old index ready new next after =
+    after ++ elements_from canonical weights numeric new next ≡ ready ++ elements_from canonical weights numeric old index

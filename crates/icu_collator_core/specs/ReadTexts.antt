@@ -1,4 +1,4 @@
--- Recorded texts that begin with a character, by what stands behind it.
+-- Recorded texts that begin with a character, by what stands after it.
 use Rattle.std.specs.Prelude.{◌≡◌, ℕ, ◌+◌, cond, ltb, ◌++◌, List, length, take, reverse, flat_map, Option, Some, None, option_map}
 use Rattle.std.specs.Int.{cast_unsigned, w32}
 use Rattle.std.specs.Option.{is_some, option_and_then, unwrap_or}
@@ -16,11 +16,11 @@ use Rattle.icu_collator_core.specs.TableMeaning.{TableWord}
 abbrev pub word_by : List ℕ → List ℕ → Option ℕ
 word_by units cs = option_map (cast_unsigned w32) (value_of_key units (flat_map units_of cs))
 
--- a text with so many characters behind its first has this word, if the word has elements
+-- a text with so many characters after its first has this word, if the word has elements
 unfoldable pub text_by : Pools → ℕ → ℕ → Option LongerText
 text_by pools behind word = cond (is_some (elements_of_word pools word)) (Some (record { behind = behind; word = word })) None
 
--- the recorded text that ends behind so many characters
+-- the recorded text that ends after so many characters
 unfoldable pub text_of_length : Pools → List ℕ → List ℕ → ℕ → Option LongerText
 text_of_length pools units cs behind =
     cond (ltb 0 behind) (option_and_then (text_by pools behind) (word_by units (take behind cs))) None
@@ -34,7 +34,7 @@ abbrev pub found_or : {A : Type 0} → Option A → Option A → Option A
 found_or (Some x) before = Some x
 found_or None before = before
 
--- the longest recorded text that begins with the character of a word, by the characters behind it
+-- the longest recorded text that begins with the character of a word, by the characters after it
 unfoldable pub longer_by : TableWord → List ℕ → Option LongerText
 longer_by entry cs =
     let word = unprefixed_word entry.pools entry.word
@@ -44,24 +44,24 @@ longer_by entry cs =
 abbrev pub length_with : Option LongerText → ℕ
 length_with text = unwrap_or (option_map (λ t. t.behind + 1) text) 1
 
--- the characters that stand directly before a place of a list, the nearest first, as many as a prefix may have
+-- the characters that stand directly before an index of a list, the nearest first, as many as a prefix may have
 abbrev pub characters_before : List ℕ → ℕ → List ℕ
-characters_before list place = take longest_prefix (reverse (take place list))
+characters_before list index = take longest_prefix (reverse (take index list))
 
 -- the same where others stand before the list, the nearest first
 abbrev pub characters_behind : List ℕ → List ℕ → ℕ → List ℕ
-characters_behind further list place = take longest_prefix (reverse (take place list) ++ further)
+characters_behind further list index = take longest_prefix (reverse (take index list) ++ further)
 
 -- the longest recorded prefix of a word, by the characters before its own, the nearest first
 unfoldable pub prefixed_by : TableWord → List ℕ → Option LongerText
 prefixed_by entry before =
     cond (has_tag Prefix entry.word) (longest_text entry.pools (trie_of entry.pools.contexts (index_of entry.word)) before) None
 
--- the units of what may stand behind the character of a word
+-- the units of what may stand after the character of a word
 abbrev pub suffix_units : TableWord → List ℕ
 suffix_units entry = trie_of entry.pools.contexts (index_of (unprefixed_word entry.pools entry.word))
 
--- a cursor stands behind these characters
+-- a cursor stands after these characters
 pub record IsAtText (trie suffix : List ℕ) (cursor : Char16TrieIterator) : Type 0 where
   pub reads : cursor_units cursor ≡ trie
   pub stands : cursor_state cursor ≡ follow trie (start trie) (flat_map units_of suffix)

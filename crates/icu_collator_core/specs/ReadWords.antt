@@ -26,7 +26,7 @@ default_by entry c =
     let unranged = cond (is_jamo c) (jamo_primary c) (implicit_primary c)
     in primary_element (unwrap_or (special_primary c) (unwrap_or (ranged_by entry c) unranged))
 
--- the elements of a character with nothing before or behind it
+-- the elements of a character with nothing before or after it
 unfoldable pub elements_alone_by : TableWord → ℕ → List Element
 elements_alone_by entry c = unwrap_or (recorded_by entry c [] []) (default_by entry c ∷ [])
 

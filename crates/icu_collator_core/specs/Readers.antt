@@ -21,12 +21,12 @@ numeric_of reader = reader.numeric
 abbrev pub elements_left : Reader → List Element
 elements_left reader =
     drop reader.given (unpacked reader.ready.items)
-    ++ elements_from (canonical_by reader.checked.now) (weights_by reader.numeric reader.checked.now) (is_some reader.numeric) reader.list.items reader.place
+    ++ elements_from (canonical_by reader.checked.now) (weights_by reader.numeric reader.checked.now) (is_some reader.numeric) reader.list.items reader.index
 
 -- the whole list is read, and each element that was ready is given
 pub record HasEnded (reader : Reader) : Type 0 where
   pub given : reader.given ≡ small_vec_len reader.ready
-  pub read : reader.place ≡ small_vec_len reader.list
+  pub read : reader.index ≡ small_vec_len reader.list
 
 -- another text was read on by the same tables
 pub record ReadsOn (old new : Reader) : Type 0 where

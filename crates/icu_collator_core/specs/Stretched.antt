@@ -21,11 +21,11 @@ pub record BeginsTextApart (source : CollationSource) (numeric : Option ℕ) (te
   pub text_is : text ≡ first ∷ rest
   pub apart : BeginsApart source numeric first
 
--- a front is read without the text that stands behind it: it is empty, or it ends before a boundary
+-- a front is read without the text that stands after it: it is empty, or it ends before a boundary
 abbrev pub EndsApart : CollationSource → Option ℕ → List ℕ → List ℕ → Type 0
 EndsApart source numeric front text = (front ≡ []) ⊎ BeginsTextApart source numeric text
 
--- the elements of a front and a text behind it are those of the front, then these, then more
+-- the elements of a front and a text after it are those of the front, then these, then more
 abbrev pub BeginsWithElements : CollationSource → Option ℕ → List ℕ → List ℕ → List ℕ → Type 0
 BeginsWithElements source numeric front text items =
     (more : List Element) × (text_elements source numeric (front ++ text) ≡ text_elements source numeric front ++ (unpacked items ++ more))
@@ -52,7 +52,7 @@ pub record IsReadInto {I : Type 0} (source : CollationSource) (numeric : Option 
   pub left : Spells steps chars rest
   pub opened : IsOpen source numeric read s.stretch s.elements.items
 
--- A text is read so far: its elements begin with those that stand, also behind a front that is read without it. Where it was read to
+-- A text is read so far: its elements begin with those that stand, also after a front that is read without it. Where it was read to
 -- its end, they are these; else the rest is left to an iterator.
 pub record IsStretched {I : Type 0} (source : CollationSource) (numeric : Option ℕ) (steps : I → Option ℕ → I → Type 0) (text : List ℕ) (chars : I) (s : StretchedElements) : Type 0 where
   pub stands : (front : List ℕ) → EndsApart source numeric front text → All IsScalar (front ++ text) → BeginsWithElements source numeric front text (settled_in s)

@@ -18,9 +18,9 @@ pub record BeginsWithBoundary (source : CollationSource) (numeric : Option ℕ) 
   pub list_is : list ≡ first ∷ rest
   pub apart : IsBoundaryApart source numeric first
 
--- A text ends with these characters, the last stretch: a boundary and what stands behind it, or the whole text. The decomposed
+-- A text ends with these characters, the last stretch: a boundary and what stands after it, or the whole text. The decomposed
 -- list of what stands before has the first so many elements. Unless the stretch is rough, its full lists one after another are in
--- order and have the other elements, where what follows may stand behind this class.
+-- order and have the other elements, where what follows may stand after this class.
 pub record IsReadUpToStretch (source : CollationSource) (numeric : Option ℕ) (text chars : List ℕ) (count class : ℕ) (is_rough : Bool) (items : List ℕ) : Type 0 where
   pub done : List ℕ
   pub before : ℕ
@@ -40,6 +40,6 @@ pub record HasElements (source : CollationSource) (numeric : Option ℕ) (list i
 abbrev pub IsOpen : CollationSource → Option ℕ → List ℕ → Stretch → List ℕ → Type 0
 IsOpen source numeric text s items = IsReadUpToStretch source numeric text s.chars.items s.count s.class s.is_rough items
 
--- the decomposed list of a text has these elements, where what follows may stand behind this class
+-- the decomposed list of a text has these elements, where what follows may stand after this class
 abbrev pub IsClosed : CollationSource → Option ℕ → List ℕ → ℕ → List ℕ → Type 0
 IsClosed source numeric text class items = IsReadInOrder source numeric (decomposed (canonical_by source) text) class items

@@ -2,7 +2,7 @@
 -- root's before the tailoring's, and a kind comes only where no earlier one does.
 use Rattle.std.specs.Prelude.{ℕ, ◌⊎◌, true, List, ◌++◌, codes, IsTrue, IfSome, MatchOption}
 use Rattle.std.specs.Fmt.{decimal, digits}
-use Rattle.icu_codepointtrie.specs.Places.{has_cell}
+use Rattle.icu_codepointtrie.specs.Slots.{has_cell}
 use Rattle.std.specs.Char.{IsScalar}
 use Rattle.icu_normalizer_core.specs.CanonicalFaults.{IsLeastOffender}
 use Rattle.icu_collator_core.specs.declared.check.TableFault.{TableFault}
@@ -13,7 +13,7 @@ use Rattle.icu_collator_core.specs.declared.tables.CollationTables.{CollationTab
 use Rattle.icu_collator_core.specs.declared.tables.data.CollationData.{CollationData}
 use Rattle.icu_collator_core.specs.TableMeaning.{pools_of, word_at}
 use Rattle.icu_collator_core.specs.WordForms.{IsWord, keeps_special}
-use Rattle.icu_collator_core.specs.WordPlaces.{IsInside}
+use Rattle.icu_collator_core.specs.WordIndices.{IsInside}
 
 -- a fault as it is printed; the code of its character in hexadecimal digits
 abbrev pub fault_text : TableFault → List ℕ
@@ -57,5 +57,5 @@ abbrev pub HasWord : Layer → CollationData → ℕ → Type 0
 HasWord layer source c = IsTrue (keeps_special c (word_at source c)) × IsWord layer (pools_of source) (word_at source c)
 
 -- what the word names is in the lists
-abbrev pub HasPlaces : Layer → CollationData → ℕ → Type 0
-HasPlaces layer source c = IsInside (pools_of source) (word_at source c)
+abbrev pub HasIndices : Layer → CollationData → ℕ → Type 0
+HasIndices layer source c = IsInside (pools_of source) (word_at source c)

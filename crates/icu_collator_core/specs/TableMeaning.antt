@@ -1,7 +1,7 @@
 -- What tables mean, as they are read with canonical data: the word that counts for a character, and what it says.
 use Rattle.std.specs.Prelude.{ℕ, ◌+◌, ◌-◌, ◌*◌, ◌^◌, Bool, false, cond, not, ◌==◌, ◌&&◌, leb, List, [], ◌∷◌, slice_get, slice_index, Option, Some, None, unwrap_or, option_and_then}
 use lib.Utf8.{scalar, scalars}
-use Rattle.icu_codepointtrie.specs.Places.{value_at}
+use Rattle.icu_codepointtrie.specs.Slots.{value_at}
 use Rattle.icu_normalizer_core.specs.BuiltIn.{is_jamo}
 use Rattle.icu_normalizer_core.specs.Canonical.{Canonical, is_starter}
 use Rattle.icu_collator_types.specs.declared.elements.Element.{Element}
@@ -17,7 +17,7 @@ use Rattle.icu_collator_core.specs.TableSettings.{groups_of, has_bit, is_compres
 
 -- ## The word that counts
 
--- a word, and the lists that it names places in
+-- a word, and the lists that it names indices in
 pub record TableWord : Type 0 where
   pub word : ℕ
   pub pools : Pools
@@ -81,7 +81,7 @@ is_primary_alone p (e ∷ f ∷ es) = false
 abbrev pub unless_own : ℕ → List Element → Option (List Element)
 unless_own c es = cond (is_primary_alone (own_primary c) es) None (Some es)
 
--- the record of a text after a prefix, by the word of its first character; the text is given by what stands behind that
+-- the record of a text after a prefix, by the word of its first character; the text is given by what stands after that
 unfoldable pub recorded_by : TableWord → ℕ → List ℕ → List ℕ → Option (List Element)
 recorded_by entry c [] [] =
     option_and_then (unless_own c) (elements_of_word entry.pools (lone_word entry.pools entry.word))

@@ -17,7 +17,7 @@ use Rattle.icu_collator_core.specs.Collation.{with_lead}
 
 -- whether a bit is set
 abbrev pub has_bit : ℕ → ℕ → Bool
-has_bit place bits = bits / 2 ^ place % 2 == 1
+has_bit index bits = bits / 2 ^ index % 2 == 1
 
 -- the last variable group, by two bits
 abbrev pub max_variable_of : ℕ → MaxVariable
@@ -46,7 +46,7 @@ settings_of metadata =
 abbrev pub groups_of : List ℕ → List ℕ
 groups_of last_primaries = take 4 last_primaries
 
--- whether a lead's bit is set in the words behind the four groups, 16 bits each, the lowest bit of the first word for lead 00
+-- whether a lead's bit is set in the words after the four groups, 16 bits each, the lowest bit of the first word for lead 00
 abbrev pub has_lead_bit : List ℕ → ℕ → Bool
 has_lead_bit last_primaries lead =
     elim (slice_get last_primaries (4 + lead / 16)) [ Some word ↦ has_bit (lead % 16) word | None ↦ false ]
@@ -55,7 +55,7 @@ has_lead_bit last_primaries lead =
 abbrev pub is_usually_compressible : ℕ → Bool
 is_usually_compressible lead = is_within 0x61 0x80 lead || (lead == 0xfe)
 
--- whether a lead is compressible: 16 words behind the four groups say it, where there are just these
+-- whether a lead is compressible: 16 words after the four groups say it, where there are just these
 unfoldable pub is_compressible_in : List ℕ → ℕ → Bool
 is_compressible_in last_primaries lead =
     cond (length last_primaries == 20) (has_lead_bit last_primaries lead) (is_usually_compressible lead)

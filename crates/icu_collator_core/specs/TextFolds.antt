@@ -34,7 +34,7 @@ count_with count c = cond (leb count longest_suffix) (count + 1) count
 abbrev pub is_short_count : ℕ → Bool
 is_short_count count = leb count longest_suffix
 
--- which marks stand behind which starters, with one character more
+-- which marks stand after which starters, with one character more
 abbrev pub order_with : Canonical → Order → ℕ → Order
 order_with canonical Starters c = cond (is_starter canonical c) Starters Marks
 order_with canonical Marks c = cond (is_starter canonical c) Mixed Marks

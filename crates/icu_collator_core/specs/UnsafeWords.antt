@@ -1,4 +1,4 @@
--- Which characters the words of tables make unsafe: those of the texts in contexts behind a character, and
+-- Which characters the words of tables make unsafe: those of the texts in contexts after a character, and
 -- a character with texts in its context before it.
 use Rattle.std.specs.Prelude.{◌≡◌, ℕ, zero, suc, ℤ, ◌⊎◌, ◌<◌, ◌≤◌, Bool, true, ◌||◌, List, length, flat_map, slice_index, IsTrue, MatchOption}
 use Rattle.std.specs.Char.{IsScalar}
@@ -36,7 +36,7 @@ pub record IsKeyOf (cs key : List ℕ) : Type 0 where
   pub scalars : scalars cs ≡ true
   pub short : length cs ≤ longest_suffix
 
--- the characters that a text makes unsafe: all of one that stands behind a character, or the one that it stands before
+-- the characters that a text makes unsafe: all of one that stands after a character, or the one that it stands before
 abbrev pub MakesUnsafeBy : Side → List ℕ → ℕ → Type 0
 MakesUnsafeBy Behind cs d = Contains cs d
 MakesUnsafeBy (Before c) cs d = d ≡ c
@@ -58,12 +58,12 @@ ContextMakesUnsafe pools side word d =
     × MapsKey (trie_of pools.contexts (index_of word)) (at_node 0) key number
     × EntryMakesUnsafe pools side key number d
 
--- ## The characters at a place of texts
+-- ## The characters at an index of texts
 
 -- the last of so many characters of a text, or for none of them the first
 abbrev pub IsLastOf : ℕ → ℕ → List ℕ → ℕ → Type 0
 IsLastOf zero first cs d = d ≡ first
-IsLastOf (suc place) first cs d = (place < length cs) × (d ≡ slice_index cs place)
+IsLastOf (suc index) first cs d = (index < length cs) × (d ≡ slice_index cs index)
 
 -- a key gives it
 abbrev pub KeyGives : ℕ → ℕ → List ℕ → ℕ → Type 0
@@ -86,7 +86,7 @@ ReadingGives pools many Broken word d = ⊥
 
 -- ## Words of characters
 
--- what the word of a character makes unsafe: what may stand behind it, and the character itself where texts may stand before it
+-- what the word of a character makes unsafe: what may stand after it, and the character itself where texts may stand before it
 abbrev pub WordMakesUnsafe : TableWord → ℕ → ℕ → Type 0
 WordMakesUnsafe entry c d =
     (IsTrue (has_tag Contraction (unprefixed_word entry.pools entry.word)) × ContextMakesUnsafe entry.pools Behind (unprefixed_word entry.pools entry.word) d)

@@ -74,7 +74,7 @@ is_sound_word special_primaries pools own c word =
     cond (has_tag Offset word) (is_sound_offset special_primaries (slice_index pools.ces (index_of word)) c)
     (elim (elements_of_word pools word) [ Some es ↦ are_sound_spelled special_primaries own es | None ↦ true ])
 
--- the same where nothing stands before or behind the character: it may have its own element
+-- the same where nothing stands before or after the character: it may have its own element
 abbrev pub is_sound_lone_word : CollationSpecialPrimaries → Pools → ℕ → ℕ → Bool
 is_sound_lone_word special_primaries pools c word = is_sound_word special_primaries pools (Some (own_primary c)) c word
 
@@ -122,12 +122,12 @@ pub record AreSoundSpecialPrimaries (special_primaries : CollationSpecialPrimari
 
 -- ## Jamo: a table of other than 256 words, or a word of no sound element
 
--- whether the word of a jamo, by its place, states an element that keeps the rules, or the one that it has by itself
+-- whether the word of a jamo, by its index, states an element that keeps the rules, or the one that it has by itself
 unfoldable pub is_sound_jamo : CollationTables → ℕ → Bool
-is_sound_jamo tables place =
-    states_element (slice_index tables.jamo.ce32s place)
-    && elim (stated_element (slice_index tables.jamo.ce32s place)) [
-      | Some e ↦ are_sound_spelled tables.special_primaries (Some (own_primary (0x1100 + place))) (e ∷ [])
+is_sound_jamo tables index =
+    states_element (slice_index tables.jamo.ce32s index)
+    && elim (stated_element (slice_index tables.jamo.ce32s index)) [
+      | Some e ↦ are_sound_spelled tables.special_primaries (Some (own_primary (0x1100 + index))) (e ∷ [])
       | None ↦ false
     ]
 
@@ -137,20 +137,20 @@ jamo_count = 256
 
 pub record AreSoundJamo (tables : CollationTables) : Type 0 where
   pub count : length tables.jamo.ce32s ≡ jamo_count
-  pub sound : (place : ℕ) → place < jamo_count → is_sound_jamo tables place ≡ true
+  pub sound : (index : ℕ) → index < jamo_count → is_sound_jamo tables index ≡ true
 
--- the least place of a word that is none
-pub record IsLeastJamo (tables : CollationTables) (place : ℕ) : Type 0 where
+-- the least index of a word that is none
+pub record IsLeastJamo (tables : CollationTables) (index : ℕ) : Type 0 where
   pub count : length tables.jamo.ce32s ≡ jamo_count
-  pub inside : place < jamo_count
-  pub offends : is_sound_jamo tables place ≡ false
-  pub before : (other : ℕ) → other < place → is_sound_jamo tables other ≡ true
+  pub inside : index < jamo_count
+  pub offends : is_sound_jamo tables index ≡ false
+  pub before : (other : ℕ) → other < index → is_sound_jamo tables other ≡ true
 
 -- of a table of another length, that is the fault: its end, or that of a table of 256 words
 abbrev pub IsJamoFault : CollationTables → ℕ → Type 0
-IsJamoFault tables place =
-    IsLeastJamo tables place
-    ⊎ ((length tables.jamo.ce32s ≢ jamo_count) × (place ≡ min (length tables.jamo.ce32s) jamo_count))
+IsJamoFault tables index =
+    IsLeastJamo tables index
+    ⊎ ((length tables.jamo.ce32s ≢ jamo_count) × (index ≡ min (length tables.jamo.ce32s) jamo_count))
 
 -- ## Reordering: a table of other than 256 bytes, or one that doesn't keep primaries apart
 

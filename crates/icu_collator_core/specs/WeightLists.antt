@@ -75,7 +75,7 @@ weight_on Primary e = e.primary
 weight_on Secondary e = e.secondary * 2 ^ 16
 weight_on Tertiary e = e.tertiary * 2 ^ 16
 
--- the bytes of a weight begin those of a higher one: that one lies within the room that the bytes leave behind them
+-- the bytes of a weight begin those of a higher one: that one lies within the room that the bytes leave after them
 abbrev pub begins : ℕ → ℕ → Bool
 begins weight higher =
     not (weight == 0)

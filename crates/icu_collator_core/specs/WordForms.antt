@@ -76,7 +76,7 @@ default_of pools word = default_word pools.contexts (index_of word)
 abbrev pub ValuesPass : Pools → (ℕ → Bool) → ℕ → Type 0
 ValuesPass pools passes word = EntriesPass (by_word passes) (trie_of pools.contexts (index_of word))
 
--- what a word says depends on the characters behind
+-- what a word says depends on the characters after
 abbrev pub IsContraction : Pools → ℕ → Type 0
 IsContraction pools word =
     IsTrue (has_form Contraction word && is_own_word pools (default_of pools word)) × ValuesPass pools (is_own_word pools) word

@@ -6,9 +6,9 @@ pub(crate) mod digits;
 pub(crate) mod faults;
 pub(crate) mod flags;
 pub(crate) mod forms;
+pub(crate) mod indices;
 pub(crate) mod keys;
 pub(crate) mod layers;
-pub(crate) mod places;
 pub(crate) mod prefixes;
 pub(crate) mod records;
 pub(crate) mod refused_characters;
@@ -31,7 +31,7 @@ pub enum TableFault {
     /// The word of the character, or one that stands within it, has none of the forms that may stand there; or the
     /// character is U+FFFE, U+FFFD or U+FFFF, and its word says something else than what the character is.
     Word(char),
-    /// The word of the character, or one that stands within it, names a place that is not in the lists, or no items.
+    /// The word of the character, or one that stands within it, names an index that is not in the lists, or no items.
     Index(char),
     /// The context of the character breaks the grammar of unit tries, or a rule on contexts.
     Context(char),
@@ -41,7 +41,7 @@ pub enum TableFault {
     PrefixOfWeight,
     /// The secondaries of marks are too many or too few, or break a rule on weights.
     Diacritics,
-    /// The word of the jamo at this place in its table is missing, or is not one with a sound element.
+    /// The word of the jamo at this index in its table is missing, or is not one with a sound element.
     Jamo(usize),
     /// The table of leads lacks some, or sends two to one, or moves one that stays.
     Reordering,

@@ -39,7 +39,7 @@ pub struct CheckedTables<'a> {
     low: Vec<CollationNote>,
     /// By what low characters are read flat.
     flat: Vec<FlatNote>,
-    /// The same of those behind them, in pages.
+    /// The same of those after them, in pages.
     pages: Vec<NotePage>,
     /// The same of pairs of characters.
     pairs: PairNotes,
@@ -97,7 +97,7 @@ impl<'a> CheckedTables<'a> {
         Ok(checked)
     }
 
-    /// Sound tables with notes. Fails only when out of memory.
+    /// Sound tables with notes. Fails only if memory is refused.
     fn noted(alloc: Global, sound: SoundTables<'a>) -> Result<CheckedTables<'a>, AllocError>
         ensures { IfOk result (λ checked. checked ≡ sound.entry) }
     {
@@ -147,7 +147,7 @@ impl<'a> CheckedTables<'a> {
         self.sound.keep_promise();
     }
 
-    /// The element of a character that is read by itself, whatever stands before and behind it; `None` for one that isn't,
+    /// The element of a character that is read by itself, whatever stands before and after it; `None` for one that isn't,
     /// and for some that are. No memory is taken.
     #[inline]
     pub fn alone_element(&self, c: char) -> Option<CollationElement>
@@ -162,7 +162,7 @@ impl<'a> CheckedTables<'a> {
         }
     }
 
-    /// The element of a character that is read by itself, whatever stands before and behind it, that is its own full list
+    /// The element of a character that is read by itself, whatever stands before and after it, that is its own full list
     /// (UAX 15), and at which the reading of a text may begin; `None` for another, for some that are so, and for all from
     /// U+0380 on. It takes one read and no memory.
     #[inline]
@@ -201,7 +201,7 @@ impl<'a> CheckedTables<'a> {
         is_compressible_by(&self.compressible, lead)
     }
 
-    /// What is noted of a character; `None` for one behind the low characters.
+    /// What is noted of a character; `None` for one after the low characters.
     #[inline]
     pub(crate) fn collation_note(&self, c: char) -> Option<CollationNote>
         ensures { IfSome result (λ note. IsNoted self.now c note) }
@@ -212,7 +212,7 @@ impl<'a> CheckedTables<'a> {
         }
     }
 
-    /// By what a character is read flat; `None` for one behind the low characters.
+    /// By what a character is read flat; `None` for one after the low characters.
     #[inline(always)]
     pub(crate) fn flat_note(&self, c: char) -> Option<&FlatNote>
         ensures { IfSome result (λ note. IsFlatNote self.now c note.now) }
@@ -223,7 +223,7 @@ impl<'a> CheckedTables<'a> {
         }
     }
 
-    /// By what a character behind the low ones is read flat; `None` for one in no page.
+    /// By what a character after the low ones is read flat; `None` for one in no page.
     #[inline(always)]
     pub(crate) fn paged_note(&self, c: char) -> Option<&FlatNote>
         ensures { IfSome result (λ note. IsFlatNote self.now c note.now) }

@@ -24,7 +24,7 @@ pub use steps::FlatStep;
 pub use stretched::StretchedElements;
 
 impl CheckedTables<'_> {
-    /// Appends the elements of a character that stands behind one of this class, if it is read so, its marks stand in order, and
+    /// Appends the elements of a character that stands after one of this class, if it is read so, its marks stand in order, and
     /// there is room; answers the class of the last character of its full list, 256 where a boundary has to follow.
     #[inline(always)]
     fn push_flat<const N: usize>(
@@ -45,7 +45,7 @@ impl CheckedTables<'_> {
         }
     }
 
-    /// The same of a character behind the low ones: by its note, or by those of its full list, as of a syllable's letters.
+    /// The same of a character after the low ones: by its note, or by those of its full list, as of a syllable's letters.
     #[inline(never)]
     fn push_found<const N: usize>(
         &self,
@@ -67,10 +67,10 @@ impl CheckedTables<'_> {
         Some(trail)
     }
 
-    /// Reads the text that an iterator gives into an empty list, if it is flat: each of its characters has a full list (UAX 15)
-    /// of characters that are read alone, below U+0800 one or two, or behind which a boundary stands, its marks stand in order, and
-    /// the list has room for its elements. `false` for another text; what the list has then is not said. Where a lead byte of
-    /// numbers is given, a text with a digit is none. A character below U+0800 takes one read; no memory is taken.
+    /// Reads the text that an iterator gives into an empty list, if it is flat: each of its characters has a full list (UAX 15) of
+    /// characters that are read alone, below U+0800 one or two, or after which a boundary stands, its marks stand in order, and the
+    /// list has room for its elements. `false` for another text; what the list has then is not said. Where a lead byte of numbers
+    /// is given, a text with a digit is none. A character below U+0800 takes one read; no memory is taken.
     #[inline]
     pub fn read_flat<I: Iterator<Item = char> + Drop, const N: usize>(
         &self,

@@ -65,7 +65,7 @@ impl Drop for CollationTables<'_> {
 }
 
 impl<'a> CollationDiacritics<'a> {
-    /// The same secondaries: borrowed again, or copied. Fails only when out of memory.
+    /// The same secondaries: borrowed again, or copied. Fails only if memory is refused.
     pub fn clone(&self, alloc: Global) -> Result<CollationDiacritics<'a>, AllocError>
         ensures { IfOk result (λ copy. copy ≡ self.now) }
     {
@@ -75,7 +75,7 @@ impl<'a> CollationDiacritics<'a> {
 }
 
 impl<'a> CollationJamo<'a> {
-    /// The same words: borrowed again, or copied. Fails only when out of memory.
+    /// The same words: borrowed again, or copied. Fails only if memory is refused.
     pub fn clone(&self, alloc: Global) -> Result<CollationJamo<'a>, AllocError>
         ensures { IfOk result (λ copy. copy ≡ self.now) }
     {
@@ -85,7 +85,7 @@ impl<'a> CollationJamo<'a> {
 }
 
 impl<'a> CollationTables<'a> {
-    /// The same tables: borrowed lists are borrowed again, others copied. Fails only when out of memory.
+    /// The same tables: borrowed lists are borrowed again, others copied. Fails only if memory is refused.
     pub fn clone(&self, alloc: Global) -> Result<CollationTables<'a>, AllocError>
         ensures { IfOk result (λ copy. copy ≡ self.now) }
     {

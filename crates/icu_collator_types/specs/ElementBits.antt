@@ -5,7 +5,7 @@ use Rattle.std.specs.Prelude.{ℕ, ◌+◌, ◌*◌, ◌/◌, ◌%◌, ◌^◌, 
 abbrev pub element_bits : ℕ → ℕ → ℕ → ℕ
 element_bits primary secondary lower = primary * 2 ^ 32 + secondary * 2 ^ 16 + lower
 
--- the primary of a character that no table names, behind those of all that are named: FE and three bytes by the code point
+-- the primary of a character that no table names, after those of all that are named: FE and three bytes by the code point
 abbrev pub implicit_primary : ℕ → ℕ
 implicit_primary c =
     0xfe000000 + (4 + (c + 1) / 18 / 254 % 251) * 2 ^ 16 + (2 + (c + 1) / 18 % 254) * 2 ^ 8 + (2 + (c + 1) % 18 * 14)

@@ -35,7 +35,7 @@ has_tag tag word = is_special word && (word % 2 ^ 4 == tag_number tag)
 abbrev pub is_expansion : ℕ → Bool
 is_expansion word = has_tag Expansion32 word || has_tag Expansion word
 
--- the word names a place in the tables
+-- the word names an index in the tables
 abbrev pub has_index : ℕ → Bool
 has_index word =
     is_expansion word || (has_tag Prefix word || (has_tag Contraction word || (has_tag Digit word || has_tag Offset word)))

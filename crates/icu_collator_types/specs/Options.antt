@@ -1,4 +1,4 @@
--- The options that a collator goes by, and a strength's place among the levels.
+-- The options that a collator goes by, and a strength's index among the levels.
 use Rattle.std.specs.Prelude.{ℕ, Bool, true, false, ◌&&◌, not, unwrap_or, nat_le}
 use Rattle.icu_collator_types.specs.declared.options.Strength.{Strength}
 use Rattle.icu_collator_types.specs.declared.options.Strength.TheVariants.{Primary, Secondary, Tertiary, Quaternary, Identical}
@@ -33,7 +33,7 @@ abbrev pub is_shifted : AlternateHandling → Bool
 is_shifted NonIgnorable = false
 is_shifted Shifted = true
 
--- the place of the last variable group among the four groups of a file
+-- the index of the last variable group among the four groups of a file
 abbrev pub group_index : MaxVariable → ℕ
 group_index Space = 0
 group_index Punctuation = 1

@@ -1,6 +1,6 @@
 pub use Rattle.icu_codepointtrie.specs.TrieValues
 pub use Rattle.icu_codepointtrie.specs.TrieValueLaws
-pub use Rattle.icu_codepointtrie.specs.Places
+pub use Rattle.icu_codepointtrie.specs.Slots
 pub use Rattle.icu_codepointtrie.specs.Ranges
 pub use Rattle.icu_codepointtrie.specs.RangeIterators
 pub use Rattle.icu_codepointtrie.specs.CodePointMaps

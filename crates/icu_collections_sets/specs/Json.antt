@@ -34,23 +34,23 @@ pub record IsJson (value : Data) (set : List ℕ) : Type 0 where
   pub is_array : as_array value ≡ Some (items_of items)
   pub spell : SpellSet items set
 
--- the value at a place
+-- the value at an index
 abbrev pub item_at : List Data → ℕ → Data
-item_at items place = slice_index_or items place null
+item_at items index = slice_index_or items index null
 
--- the values before a place spell a set, and the value there spells no range
-pub record IsItemFault (items : List Data) (place : ℕ) : Type 0 where
-  pub within : place < length items
+-- the values before an index spell a set, and the value there spells no range
+pub record IsItemFault (items : List Data) (index : ℕ) : Type 0 where
+  pub within : index < length items
   pub set : List ℕ
-  pub before : SpellSet (take place items) set
-  pub no_range : (range : ℕ × ℕ) → ¬ IsItem (item_at items place) range
+  pub before : SpellSet (take index items) set
+  pub no_range : (range : ℕ × ℕ) → ¬ IsItem (item_at items index) range
 
--- the values before a place spell a set, and the value there a range that begins at most one past the last code point of the one before
-pub record IsOrderFault (items : List Data) (place : ℕ) : Type 0 where
-  pub within : place < length items
+-- the values before an index spell a set, and the value there a range that begins at most one past the last code point of the one before
+pub record IsOrderFault (items : List Data) (index : ℕ) : Type 0 where
+  pub within : index < length items
   pub set : List ℕ
-  pub before : SpellSet (take place items) set
+  pub before : SpellSet (take index items) set
   pub some : set ≢ []
   pub range : ℕ × ℕ
-  pub item : IsItem (item_at items place) range
+  pub item : IsItem (item_at items index) range
   pub begins : range.0 ≤ slice_index set (length set - 1)

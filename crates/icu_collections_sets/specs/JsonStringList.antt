@@ -42,15 +42,15 @@ pub record IsStringListJson (value : Data) (set : CodePointsAndStrings) : Type 0
 -- why a value is no array of texts
 abbrev pub IsNoTexts : Data → JsonError → Type 0
 IsNoTexts value JsonShape = (texts : List (List ℕ)) → as_array value ≢ Some (items_of (map string texts))
-IsNoTexts value (JsonItem place) = ⊥
-IsNoTexts value (JsonOrder place) = ⊥
+IsNoTexts value (JsonItem index) = ⊥
+IsNoTexts value (JsonOrder index) = ⊥
 IsNoTexts value (Strings fault) = ⊥
 IsNoTexts value Memory = Unit {0}
 
 -- why a value stands for no set with strings: it has not the shape, else its items spell no set, else its texts are no strings of a set
 abbrev pub IsRefusedStringList : Data → JsonError → Type 0
 IsRefusedStringList value JsonShape = (items : List Data) (strings : List (List ℕ)) → ¬ HasShape value items strings
-IsRefusedStringList value (JsonItem place) = (items : List Data) × (strings : List (List ℕ)) × HasShape value items strings × IsItemFault items place
-IsRefusedStringList value (JsonOrder place) = (items : List Data) × (strings : List (List ℕ)) × HasShape value items strings × IsOrderFault items place
+IsRefusedStringList value (JsonItem index) = (items : List Data) × (strings : List (List ℕ)) × HasShape value items strings × IsItemFault items index
+IsRefusedStringList value (JsonOrder index) = (items : List Data) × (strings : List (List ℕ)) × HasShape value items strings × IsOrderFault items index
 IsRefusedStringList value (Strings fault) = (items : List Data) × (strings : List (List ℕ)) × HasShape value items strings × ((set : List ℕ) × SpellSet items set) × IsFirstFault strings fault
 IsRefusedStringList value Memory = Unit {0}

@@ -14,9 +14,9 @@ pub record CodePointsAndStrings : Type 0 where
 abbrev pub IsOneCharacter : List ℕ → Type 0
 IsOneCharacter text = length (chars text) ≡ 1
 
--- the text at a place
+-- the text at an index
 abbrev pub text_at : List (List ℕ) → ℕ → List ℕ
-text_at texts place = slice_index_or texts place []
+text_at texts index = slice_index_or texts index []
 
 -- none of the first `count` texts is one character, and each is below the next, by bytes
 pub record AreStringsUpTo (texts : List (List ℕ)) (count : ℕ) : Type 0 where

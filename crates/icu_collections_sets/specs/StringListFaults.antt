@@ -7,22 +7,22 @@ use Rattle.icu_collections_sets.specs.StringList.{IsOneCharacter, text_at, AreSt
 use Rattle.icu_collections_sets.specs.declared.codepointinvliststringlist.InvalidStringList.{InvalidStringList}
 use Rattle.icu_collections_sets.specs.declared.codepointinvliststringlist.InvalidStringList.TheVariants.{InvalidStringLength, StringListNotUnique, StringListNotSorted}
 
--- what is wrong with the text at a place: it is one character, else it equals the one before, else it is below that
+-- what is wrong with the text at an index: it is one character, else it equals the one before, else it is below that
 abbrev pub IsFaultAt : List (List ℕ) → ℕ → InvalidStringList → Type 0
-IsFaultAt texts place (InvalidStringLength text) = (string_bytes text ≡ text_at texts place) × IsOneCharacter (text_at texts place)
-IsFaultAt texts place (StringListNotUnique text) =
-    (string_bytes text ≡ text_at texts place) × (¬ IsOneCharacter (text_at texts place))
-    × (0 < place) × (text_at texts (place - 1) ≡ text_at texts place)
-IsFaultAt texts place (StringListNotSorted before text) =
-    (string_bytes before ≡ text_at texts (place - 1)) × (string_bytes text ≡ text_at texts place) × (¬ IsOneCharacter (text_at texts place))
-    × (0 < place) × (slice_cmp nat_cmp (text_at texts (place - 1)) (text_at texts place) ≡ Greater)
+IsFaultAt texts index (InvalidStringLength text) = (string_bytes text ≡ text_at texts index) × IsOneCharacter (text_at texts index)
+IsFaultAt texts index (StringListNotUnique text) =
+    (string_bytes text ≡ text_at texts index) × (¬ IsOneCharacter (text_at texts index))
+    × (0 < index) × (text_at texts (index - 1) ≡ text_at texts index)
+IsFaultAt texts index (StringListNotSorted before text) =
+    (string_bytes before ≡ text_at texts (index - 1)) × (string_bytes text ≡ text_at texts index) × (¬ IsOneCharacter (text_at texts index))
+    × (0 < index) × (slice_cmp nat_cmp (text_at texts (index - 1)) (text_at texts index) ≡ Greater)
 
 -- the first text that something is wrong with, and what
 pub record IsFirstFault (texts : List (List ℕ)) (fault : InvalidStringList) : Type 0 where
-  pub place : ℕ
-  pub within : place < length texts
-  pub before : AreStringsUpTo texts place
-  pub wrong : IsFaultAt texts place fault
+  pub index : ℕ
+  pub within : index < length texts
+  pub before : AreStringsUpTo texts index
+  pub wrong : IsFaultAt texts index fault
 
 -- the fault as it prints
 abbrev pub fault_text : InvalidStringList → List ℕ

@@ -7,12 +7,12 @@ use Rattle.icu_collections_sets.specs.StringList.{IsOneCharacter, text_at}
 use Rattle.icu_collections_sets.specs.declared.codepointinvliststringlist.Offence.{Offence}
 use Rattle.icu_collections_sets.specs.declared.codepointinvliststringlist.Offence.TheVariants.{Length, NotUnique, NotSorted}
 
--- what is wrong with the text at a place, or that nothing is
+-- what is wrong with the text at an index, or that nothing is
 abbrev pub IsOffence : List (List ℕ) → ℕ → Option Offence → Type 0
-IsOffence texts place None =
-    (¬ IsOneCharacter (text_at texts place)) × (0 < place → slice_cmp nat_cmp (text_at texts (place - 1)) (text_at texts place) ≡ Less)
-IsOffence texts place (Some Length) = IsOneCharacter (text_at texts place)
-IsOffence texts place (Some NotUnique) =
-    (¬ IsOneCharacter (text_at texts place)) × (0 < place) × (slice_cmp nat_cmp (text_at texts (place - 1)) (text_at texts place) ≡ Equal)
-IsOffence texts place (Some NotSorted) =
-    (¬ IsOneCharacter (text_at texts place)) × (0 < place) × (slice_cmp nat_cmp (text_at texts (place - 1)) (text_at texts place) ≡ Greater)
+IsOffence texts index None =
+    (¬ IsOneCharacter (text_at texts index)) × (0 < index → slice_cmp nat_cmp (text_at texts (index - 1)) (text_at texts index) ≡ Less)
+IsOffence texts index (Some Length) = IsOneCharacter (text_at texts index)
+IsOffence texts index (Some NotUnique) =
+    (¬ IsOneCharacter (text_at texts index)) × (0 < index) × (slice_cmp nat_cmp (text_at texts (index - 1)) (text_at texts index) ≡ Equal)
+IsOffence texts index (Some NotSorted) =
+    (¬ IsOneCharacter (text_at texts index)) × (0 < index) × (slice_cmp nat_cmp (text_at texts (index - 1)) (text_at texts index) ≡ Greater)

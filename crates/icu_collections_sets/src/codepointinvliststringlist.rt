@@ -91,33 +91,33 @@ fn only_character(text: &str) -> Option<char>
     }
 }
 
-/// What is wrong with the string at a place.
-fn offence_at(strings: &[String], place: usize) -> Option<Offence>
-    requires { place < length strings.now }
-    ensures { IsOffence (map string_bytes strings.now) place result }
+/// What is wrong with the string at an index.
+fn offence_at(strings: &[String], index: usize) -> Option<Offence>
+    requires { index < length strings.now }
+    ensures { IsOffence (map string_bytes strings.now) index result }
 {
-    let text = strings[place].as_str();
+    let text = strings[index].as_str();
     if only_character(text).is_some() {
         return Some(Offence::Length);
     }
-    if place == 0 {
+    if index == 0 {
         return None;
     }
-    match strings[place - 1].as_str().cmp(text) {
+    match strings[index - 1].as_str().cmp(text) {
         Ordering::Less => None,
         Ordering::Equal => Some(Offence::NotUnique),
         Ordering::Greater => Some(Offence::NotSorted),
     }
 }
 
-/// The first string at fault, by its place, and its fault.
+/// The first string at fault, by its index, and its fault.
 fn first_offence(strings: &[String]) -> Option<(usize, Offence)>
     ensures { MatchOption result (AreStrings (map string_bytes strings.now)) (λ found.
         (found.0 < length strings.now) × AreStringsUpTo (map string_bytes strings.now) found.0 × IsOffence (map string_bytes strings.now) found.0 (Some found.1)) }
 {
-    for place in 0..strings.len() {
-        if let Some(offence) = offence_at(strings, place) {
-            return Some((place, offence));
+    for index in 0..strings.len() {
+        if let Some(offence) = offence_at(strings, index) {
+            return Some((index, offence));
         }
     }
     None
@@ -136,18 +136,18 @@ impl<'a> CodePointInversionListAndStringList<'a> {
             (λ set. AreStrings (map string_bytes strings.items) × (set ≡ record { code_points = code_points.entry; strings = map string_bytes strings.items }))
             (IsFirstFault (map string_bytes strings.items)) }
     {
-        let Some((place, offence)) = first_offence(&strings) else {
+        let Some((index, offence)) = first_offence(&strings) else {
             return Ok(CodePointInversionListAndStringList {
                 code_points,
                 strings,
             });
         };
-        let text = strings.remove(place);
+        let text = strings.remove(index);
         match offence {
             Offence::Length => Err(InvalidStringList::InvalidStringLength(text)),
             Offence::NotUnique => Err(InvalidStringList::StringListNotUnique(text)),
             Offence::NotSorted => {
-                let before = strings.remove(place - 1);
+                let before = strings.remove(index - 1);
                 Err(InvalidStringList::StringListNotSorted(before, text))
             }
         }

@@ -10,7 +10,7 @@ IsOwnForm form text = form text ≡ text
 abbrev pub IsComposed : Canonical → List ℕ → Type 0
 IsComposed canonical text = IsOwnForm (composed canonical) text
 
--- the prefix holds all that stands before any character below the bound at or before the first place at which the text
+-- the prefix holds all that stands before any character below the bound at or before the first index at which the text
 -- and its form differ
 abbrev pub ReachesBelow : (List ℕ → List ℕ) → ℕ → List ℕ → List ℕ → Type 0
 ReachesBelow form bound text prefix =

@@ -1,4 +1,4 @@
--- Notes of characters, each at the place that is its code.
+-- Notes of characters, each at the index that is its code.
 use Rattle.std.specs.Prelude.{◌≡◌, ℕ, ◌<◌, ◌≤◌, not, ltb, true, None, List, [], ◌∷◌, length, take, get_or}
 use Rattle.std.specs.List.{list_all}
 use Rattle.icu_normalizer_core.specs.Canonical.{Canonical, composed}
@@ -9,7 +9,7 @@ use Rattle.icu_normalizer.specs.Marks.{stands_to}
 abbrev pub noted_list : FormNote → List ℕ
 noted_list note = take note.len (note.first ∷ note.second ∷ note.third ∷ [])
 
--- a note is that of a full list: it is in order behind what it says, and its last character has the class that it says
+-- a note is that of a full list: it is in order after what it says, and its last character has the class that it says
 pub record IsListed (canonical : Canonical) (list : List ℕ) (note : FormNote) : Type 0 where
   pub within : note.len ≤ 3
   pub list_is : 0 < note.len → list ≡ noted_list note
@@ -29,6 +29,6 @@ pub record IsLow (canonical : Canonical) (c : ℕ) (note : FormNote) : Type 0 wh
   pub alone : note.len ≡ 1 → (canonical.full c ≡ c ∷ []) × (canonical.class c ≡ note.class)
   pub steady : note.steady ≡ true → IsSteadyNote canonical c note
 
--- notes, each at the place that is its character's code
+-- notes, each at the index that is its character's code
 abbrev pub AreLow : Canonical → List FormNote → Type 0
 AreLow canonical notes = (c : ℕ) (other : FormNote) → c < length notes → IsLow canonical c (get_or notes c other)

@@ -21,14 +21,14 @@ module _ (encode : List ℕ → List ℕ) (form : List ℕ → List ℕ) where
     pub alone : form text.characters ≡ prefix ++ form rest.characters
 
   module _ (bound : ℕ) where
-    -- the prefix holds all that stands before any character below the bound at or before the first place at which the text
+    -- the prefix holds all that stands before any character below the bound at or before the first index at which the text
     -- and its form differ, or the text is damaged
     abbrev pub ReachesTo : Text → List ℕ → Type 0
     ReachesTo text prefix =
         (agreed more left others : List ℕ) (c : ℕ) → text.units ≡ encode agreed ++ more → text.characters ≡ agreed ++ c ∷ left
         → form text.characters ≡ agreed ++ others → c < bound → length agreed ≤ length prefix
 
-    -- a text is cut: the form of `rest` is what is left of its form behind the prefix
+    -- a text is cut: the form of `rest` is what is left of its form after the prefix
     pub record IsTextCut (text rest : Text) : Type 0 where
       pub prefix : List ℕ
       pub behind : IsBehind encode text prefix rest

@@ -2,7 +2,7 @@
 use Rattle.std.specs.Prelude.{◌≡◌, ℕ, ◌+◌, ◌/◌, ◌%◌, ◌^◌, Bool, true, cond, ◌==◌, ◌&&◌, ◌||◌, leb, ltb, List, [], ◌∷◌, length, take, drop, flat_map}
 use Rattle.std.specs.Char.{IsScalar}
 use Rattle.std.specs.Option.{unwrap_or}
-use Rattle.icu_codepointtrie.specs.Places.{value_at, has_cell}
+use Rattle.icu_codepointtrie.specs.Slots.{value_at, has_cell}
 use Rattle.icu_normalizer_core.specs.declared.provider.provider_lists.Uts46Tables.{Uts46Tables}
 
 -- what is done with a character
@@ -34,15 +34,15 @@ validated table text = mapped_with (0xfffd ∷ []) table text
 -- ---- Words
 
 -- where the list of a word stands, and how many characters it has
-abbrev pub list_place : ℕ → ℕ
-list_place word = word / 2 ^ 13
+abbrev pub list_index : ℕ → ℕ
+list_index word = word / 2 ^ 13
 
 abbrev pub list_count : ℕ → ℕ
 list_count word = word / 2 ^ 8 % 2 ^ 5
 
 -- the word is that of a mapped character, and its list has a character and ends within so many
 abbrev pub is_list_word : ℕ → ℕ → Bool
-is_list_word items word = ((word % 2 ^ 8) == 3) && (ltb 0 (list_count word) && leb (list_place word + list_count word) items)
+is_list_word items word = ((word % 2 ^ 8) == 3) && (ltb 0 (list_count word) && leb (list_index word + list_count word) items)
 
 -- what a word says: 0 valid, 1 ignored, 2 disallowed, else mapped
 abbrev pub mapping_of_word : List ℕ → ℕ → Mapping
@@ -50,7 +50,7 @@ mapping_of_word scalars24 word =
     cond (word == 0) Valid
     (cond (word == 1) Ignored
     (cond (word == 2) Disallowed
-    (Mapped (take (list_count word) (drop (list_place word) scalars24)))))
+    (Mapped (take (list_count word) (drop (list_index word) scalars24)))))
 
 -- ---- Tables
 

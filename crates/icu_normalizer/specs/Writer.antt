@@ -38,7 +38,7 @@ pub record WritesPart (encode : List ℕ → List ℕ) (old : Writer) (read befo
 pub record KeepsDue (old : Writer) (read : List ℕ) (new : Writer) : Type 0 where
   pub at : (rest : List ℕ) → marks_in_order (writer_data new).class (held new ++ rest) ≡ marks_in_order (writer_data old).class (held old ++ (read ++ rest))
 
--- what is noted of a character fits behind what is held
+-- what is noted of a character fits after what is held
 pub record Fits (writer : Writer) (c : ℕ) (note : FormNote) : Type 0 where
   pub room : writer.count ≤ 61
   pub within : note.len ≤ 3

@@ -12,7 +12,7 @@ use std::alloc::{AllocError, Global};
 /// The characters of which there are notes end before this one.
 const LOW_END: u32 = 0x2000;
 
-/// What is noted of a character: its full list, where that is a mark, or a starter with what is in order behind it.
+/// What is noted of a character: its full list, where that is a mark, or a starter with what is in order after it.
 #[derive(Clone, Copy, Debug)]
 pub(crate) struct FormNote {
     /// The characters of the full list, the first `len` of the three.
@@ -21,7 +21,7 @@ pub(crate) struct FormNote {
     pub(crate) third: char,
     /// How many characters the full list has; 0 where nothing is noted.
     pub(crate) len: u8,
-    /// The full list is in order behind any character of a class up to this.
+    /// The full list is in order after any character of a class up to this.
     pub(crate) order: u8,
     /// The class of the last character of the full list, which is its highest.
     pub(crate) class: u8,

@@ -31,7 +31,7 @@ pub(crate) trait Text: Copy {
         ensures within { result ≤ length (spelled self).units }
         ensures plain { (k : ℕ) → k < result → slice_index (spelled self).units k < 0x80 };
 
-    /// What stands behind its first `count` characters, which are ASCII.
+    /// What stands after its first `count` characters, which are ASCII.
     fn behind_plain(self, count: usize) -> Self
         requires within { count ≤ length (spelled self).units }
         requires plain { (k : ℕ) → k < count → slice_index (spelled self).units k < 0x80 }
@@ -42,13 +42,13 @@ pub(crate) trait Text: Copy {
     fn keep_promise(self)
         ensures { AreCharacters (spelled self).characters };
 
-    /// Its first character and what stands behind it; `None` in place of the character where that is damaged.
+    /// Its first character and what stands after it; `None` in place of the character where that is damaged.
     fn split_char(self) -> Option<(Option<char>, Self)>
         ensures none { IfNone result (IsAtEnd (spelled self)) }
         ensures some { IfSome result (λ r. MatchOption r.0 (BeginsDamaged encode (spelled self) (spelled r.1)) (λ c. BeginsWith encode (spelled self) c (spelled r.1))) }
         ensures fewer { IfSome result (λ r. length (spelled r.1).units < length (spelled self).units) };
 
-    /// The text in two parts: undamaged text, and `rest`, which stands behind it.
+    /// The text in two parts: undamaged text, and `rest`, which stands after it.
     fn split_before(self, rest: Self) -> (Self, Self)
         requires { (prefix : List ℕ) × IsBehind encode (spelled self) prefix (spelled rest) }
         ensures front { (prefix : List ℕ) → IsBehind encode (spelled self) prefix (spelled rest) → ((spelled result.0).units ≡ encode prefix) × ((spelled result.0).characters ≡ prefix) }

@@ -6,3 +6,4 @@ pub mod SortLemmas
 pub mod RunLemmas
 pub mod CanonicalStepLemmas
 pub mod IterLemmas
+pub mod ScalarLemmas

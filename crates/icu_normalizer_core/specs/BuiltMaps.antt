@@ -3,7 +3,7 @@ use Rattle.std.specs.Prelude.{◌≡◌, ℕ, ◌*◌, ◌<◌, ◌≤◌, ◌/�
 use Rattle.std.specs.Set.{distinct_count}
 use Rattle.std.specs.Option.{is_some, unwrap_or, IsSomeAnd}
 use Rattle.std.specs.Char.{IsScalar}
-use Rattle.icu_codepointtrie.specs.Places.{TrieTables, value_at, has_cell}
+use Rattle.icu_codepointtrie.specs.Slots.{TrieTables, value_at, has_cell}
 use Rattle.icu_normalizer_core.specs.declared.canonical.builder.GivenClass.{GivenClass}
 use Rattle.icu_normalizer_core.specs.declared.canonical.builder.GivenMapping.{GivenMapping}
 use Rattle.icu_normalizer_core.specs.BuiltIn.{built_in_step}
@@ -23,7 +23,7 @@ pub record AreStepsOf (mappings : List GivenMapping) (steps : List ℕ) : Type 0
   pub triples : AreTriples steps
   pub listed : (c : ℕ) → listed_step steps c ≡ cond (is_some (built_in_step c)) [] (given_step mappings c)
   pub few : length steps ≤ 3 * distinct_count nat_eq (map (λ g. g.character) mappings)
-  pub free : (place : ℕ) → place < length steps / 3 → IsFree (key_at steps place)
+  pub free : (index : ℕ) → index < length steps / 3 → IsFree (key_at steps index)
 
 -- pairs list what mappings compose
 pub record ArePairsOf (mappings : List GivenMapping) (pairs : List ℕ) : Type 0 where

@@ -28,7 +28,7 @@ pub data Leaves (step : ℕ → List ℕ) : List ℕ → List ℕ → Type 0 whe
 abbrev pub is_starter : Canonical → ℕ → Bool
 is_starter canonical c = canonical.class c == 0
 
--- a character put before marks in their order: it goes behind those of a lower class, up to the next starter
+-- a character put before marks in their order: it goes after those of a lower class, up to the next starter
 unfoldable pub put_in_order : (ℕ → ℕ) → ℕ → List ℕ → List ℕ
 put_in_order class c [] = c ∷ []
 put_in_order class c (d ∷ ds) =

@@ -6,7 +6,7 @@ use Rattle.icu_normalizer_core.specs.BuiltIn.{built_in_step, syllable_of}
 use Rattle.icu_normalizer_core.specs.Canonical.{Canonical}
 use Rattle.icu_normalizer_core.specs.CanonicalWords.{class_of_word, full_of_word}
 
--- whether a code point has a word, and its plain word; the lists that words name places in; the mappings, and the composed pairs
+-- whether a code point has a word, and its plain word; the lists that words name indices in; the mappings, and the composed pairs
 pub record CanonicalLists : Type 0 where
   pub has_word : ℕ → Bool
   pub word : ℕ → ℕ

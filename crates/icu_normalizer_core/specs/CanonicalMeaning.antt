@@ -1,6 +1,6 @@
 -- What packed tables mean.
 use Rattle.std.specs.Option.{unwrap_or}
-use Rattle.icu_codepointtrie.specs.Places.{value_at, has_cell}
+use Rattle.icu_codepointtrie.specs.Slots.{value_at, has_cell}
 use Rattle.icu_normalizer_core.specs.declared.canonical.tables.CanonicalTables.{CanonicalTables}
 use Rattle.icu_normalizer_core.specs.Canonical.{Canonical}
 use Rattle.icu_normalizer_core.specs.CanonicalWords.{plain_word}

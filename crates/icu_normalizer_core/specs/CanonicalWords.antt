@@ -36,7 +36,7 @@ unfoldable pub is_word : ℕ → ℕ → Bool
 is_word c word =
     (word == 0) || ((word == 1) && is_syllable c) || is_mark_word word || (is_singled_word word && is_some (singled_out c)) || states_list word
 
--- where a list begins: among scalars16, and behind their end among scalars24
+-- where a list begins: among scalars16, and after their end among scalars24
 abbrev pub list_offset : ℕ → ℕ
 list_offset word = word / 2 ^ 16 - 1
 
@@ -52,16 +52,16 @@ abbrev pub is_in_16 : List ℕ → ℕ → Bool
 is_in_16 scalars16 word = ltb (list_offset word) (length scalars16)
 
 abbrev pub items_at : List ℕ → ℕ → ℕ → List ℕ
-items_at list place count = take count (drop place list)
+items_at list index count = take count (drop index list)
 
--- the list of a list's word; of places outside what is there
+-- the list of a list's word; of indices outside what is there
 unfoldable pub list_at : List ℕ → List ℕ → ℕ → List ℕ
 list_at scalars16 scalars24 word =
     cond (is_in_16 scalars16 word)
     (items_at scalars16 (list_offset word) (length_in_16 word))
     (items_at scalars24 (list_offset word - length scalars16) (length_in_24 word))
 
--- the word names no place outside the lists
+-- the word names no index outside the lists
 unfoldable pub is_inside : List ℕ → List ℕ → ℕ → Bool
 is_inside scalars16 scalars24 word =
     let in_16 = leb (list_offset word + length_in_16 word) (length scalars16)

@@ -26,26 +26,26 @@ IsListWord steps scalars24 c word = (list : List ℕ) × Leaves (step_in steps) 
 -- there is a word for each triple, and none is of a character with a built-in mapping
 pub record AreListWords (steps : List ℕ) (lists : ListWords) : Type 0 where
   pub count : length lists.words.items ≡ length steps / 3
-  pub free : (place : ℕ) → place < length steps / 3 → IsFree (key_at steps place)
-  pub each : (place : ℕ) → place < length steps / 3 → IsListWord steps lists.scalars24.items (key_at steps place) (slice_index lists.words.items place)
+  pub free : (index : ℕ) → index < length steps / 3 → IsFree (key_at steps index)
+  pub each : (index : ℕ) → index < length steps / 3 → IsListWord steps lists.scalars24.items (key_at steps index) (slice_index lists.words.items index)
 
 -- the characters of the first so many triples
 unfoldable pub keys_below : List ℕ → ℕ → List ℕ
 keys_below steps zero = []
 keys_below steps (suc n) = key_at steps n ∷ keys_below steps n
 
--- the full lists of mapped characters may take more places than words name
+-- the full lists of mapped characters may take more slots than words name
 abbrev pub HasLongLists : List ℕ → Type 0
 HasLongLists steps = 2 ^ 14 - 1 ≤ sum_by (λ c. list_room (step_in steps) (step_in steps c)) (keys_below steps (length steps / 3))
 
 -- what mapping steps leave of a mapped character has over eight characters, where they end
 abbrev pub HasBadEnd : List ℕ → Type 0
 HasBadEnd steps =
-    (place : ℕ) × (place < length steps / 3) × ((list : List ℕ) → Leaves (step_in steps) (key_at steps place ∷ []) list → 8 < length list)
+    (index : ℕ) × (index < length steps / 3) × ((list : List ℕ) → Leaves (step_in steps) (key_at steps index ∷ []) list → 8 < length list)
 
 -- each mapped character is a starter
 abbrev pub AreStarters : List GivenClass → List ℕ → Type 0
-AreStarters classes steps = (place : ℕ) → place < length steps / 3 → class_with classes (key_at steps place) ≡ 0
+AreStarters classes steps = (index : ℕ) → index < length steps / 3 → class_with classes (key_at steps index) ≡ 0
 
 -- the word says of the character its class, and what mapping steps leave of it
 pub record IsWordOf (k : ℕ) (steps scalars24 : List ℕ) (c word : ℕ) : Type 0 where

@@ -1,6 +1,6 @@
 -- What loading compatibility data gives.
 use Rattle.std.specs.Prelude.{◌≡◌, ℕ, ◌⊎◌, Result, Ok, Err}
-use Rattle.icu_codepointtrie.specs.Places.{TrieTables}
+use Rattle.icu_codepointtrie.specs.Slots.{TrieTables}
 use Rattle.icu_normalizer_core.specs.declared.canonical.tables.CanonicalTables.{CanonicalTables}
 use Rattle.icu_normalizer_core.specs.declared.compatibility.tables.NfkdTables.{NfkdTables}
 use Rattle.icu_normalizer_core.specs.declared.provider.error.DataError.{DataError}

@@ -1,6 +1,6 @@
 -- What compatibility data mean.
 use Rattle.std.specs.Option.{unwrap_or}
-use Rattle.icu_codepointtrie.specs.Places.{value_at, has_cell}
+use Rattle.icu_codepointtrie.specs.Slots.{value_at, has_cell}
 use Rattle.icu_normalizer_core.specs.declared.canonical.data.CanonicalDataError.{CanonicalDataError}
 use Rattle.icu_normalizer_core.specs.declared.canonical.data.CanonicalDataError.TheVariants.{Fault, Memory}
 use Rattle.icu_normalizer_core.specs.declared.canonical.tables.CanonicalTables.{CanonicalTables}
@@ -31,7 +31,7 @@ pub record CompatibilityTables : Type 0 where
 abbrev pub compatibility_meaning : CompatibilityTables → Canonical
 compatibility_meaning tables = compatibility_of (lists_of tables.canonical) (nfkd_lists tables.nfkd)
 
--- words are refused for their first fault; want of memory can come with any
+-- words are refused for their first fault; refused memory can come with any
 abbrev pub IsWordRefusal : CanonicalLists → WordLists → CanonicalDataError → Type 0
 IsWordRefusal lists words (Fault fault) = IsFirstWordFault lists words fault
 IsWordRefusal lists words Memory = Unit {0}

@@ -4,7 +4,7 @@ use Rattle.std.specs.Char.{IsScalar}
 use Rattle.icu_normalizer_core.specs.declared.canonical.canonical_words.Words.{Words}
 use Rattle.icu_normalizer_core.specs.declared.canonical.tables.CanonicalTables.{CanonicalTables}
 use Rattle.icu_normalizer_core.specs.declared.compatibility.check.walk.Faults.{Faults}
-use Rattle.icu_codepointtrie.specs.Places.{has_cell, value_at}
+use Rattle.icu_codepointtrie.specs.Slots.{has_cell, value_at}
 use Rattle.icu_normalizer_core.specs.BuiltIn.{is_jamo, is_syllable}
 use Rattle.icu_normalizer_core.specs.CanonicalFaults.{IsLeastOffender}
 use Rattle.icu_normalizer_core.specs.CanonicalLists.{CanonicalLists}

@@ -16,10 +16,10 @@ HasFirstMappings mappings firsts = (c : ℕ) → get nat_cmp firsts c ≡ first_
 abbrev pub HasFirstCompatibilities : List GivenCompatibility → BTreeMap ℕ (Bor GivenCompatibility) → Type 0
 HasFirstCompatibilities given firsts = (c : ℕ) → option_copied (get nat_cmp firsts c) ≡ first_given given c
 
--- a map has the place of the first compatibility mapping of each character
-abbrev pub HasFirstPlaces : List GivenCompatibility → BTreeMap ℕ ℕ → Type 0
-HasFirstPlaces given places =
-    (c : ℕ) → MatchOption (get nat_cmp places c) (first_given given c ≡ None) (λ place. (place < length given) × (first_given given c ≡ slice_get given place))
+-- a map has the index of the first compatibility mapping of each character
+abbrev pub HasFirstIndices : List GivenCompatibility → BTreeMap ℕ ℕ → Type 0
+HasFirstIndices given indices =
+    (c : ℕ) → MatchOption (get nat_cmp indices c) (first_given given c ≡ None) (λ index. (index < length given) × (first_given given c ≡ slice_get given index))
 
 -- the characters of a compatibility mapping, none without one
 abbrev pub mapping_of : Option GivenCompatibility → List ℕ

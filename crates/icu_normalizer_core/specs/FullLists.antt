@@ -13,7 +13,7 @@ source_items words (Few characters) = characters
 source_items words In16 = words.scalars16.now
 source_items words In24 = words.scalars24.now
 
--- the list goes from one place to before another, and each character is a scalar value
+-- the list goes from one index to before another, and each character is a scalar value
 pub record IsPart (items : List ℕ) (next end : ℕ) : Type 0 where
   pub order : next ≤ end
   pub inside : end ≤ length items

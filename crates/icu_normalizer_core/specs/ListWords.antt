@@ -7,7 +7,7 @@ use Rattle.icu_normalizer_core.specs.CanonicalWords.{states_list, is_inside, ful
 use Rattle.icu_normalizer_core.specs.ListRoom.{is_stated}
 use Rattle.icu_normalizer_core.specs.Settled.{left_items}
 
--- the word states the list, and names no place outside
+-- the word states the list, and names no index outside
 pub record StatesList (scalars16 scalars24 : List ℕ) (word : ℕ) (list : List ℕ) : Type 0 where
   pub fits : word < 2 ^ 30
   pub states : states_list word ≡ true
@@ -23,20 +23,20 @@ abbrev pub StatesSettled : List ℕ → List ℕ → Option (Option Left) → �
 StatesSettled scalars16 scalars24 found word =
     (left : Left) × (found ≡ Some (Some left)) × (length (left_items left) ≤ 8) × KeepsStating scalars16 scalars24 word (left_items left)
 
--- how many places a list takes among those of scalars24: none where its word states it by itself
-abbrev pub places_of : List ℕ → ℕ
-places_of list = cond (is_stated list) 0 (length list)
+-- how many slots a list takes among those of scalars24: none where its word states it by itself
+abbrev pub slots_of : List ℕ → ℕ
+slots_of list = cond (is_stated list) 0 (length list)
 
 -- how many a settled list takes; one of over eight characters has no word
-abbrev pub settled_places : Option Left → ℕ
-settled_places (Some left) = cond (ltb 8 (length (left_items left))) 0 (places_of (left_items left))
-settled_places None = 0
+abbrev pub settled_slots : Option Left → ℕ
+settled_slots (Some left) = cond (ltb 8 (length (left_items left))) 0 (slots_of (left_items left))
+settled_slots None = 0
 
 -- the first words, so many, state what is settled of their triples
-pub record StateSettled (scalars24 : List ℕ) (settled : List (Option Left)) (words : List ℕ) (places : ℕ) : Type 0 where
-  pub count : length words ≡ places
-  pub size : length scalars24 ≤ sum_by settled_places (take places settled)
-  pub each : (i : ℕ) → i < places → StatesSettled [] scalars24 (slice_get settled i) (slice_index words i)
+pub record StateSettled (scalars24 : List ℕ) (settled : List (Option Left)) (words : List ℕ) (indices : ℕ) : Type 0 where
+  pub count : length words ≡ indices
+  pub size : length scalars24 ≤ sum_by settled_slots (take indices settled)
+  pub each : (i : ℕ) → i < indices → StatesSettled [] scalars24 (slice_get settled i) (slice_index words i)
 
 -- what is settled is lists of characters, none of them empty
 abbrev pub AreLists : List (Option Left) → Type 0
@@ -47,6 +47,6 @@ abbrev pub HasUnsettled : List (Option Left) → Type 0
 HasUnsettled settled =
     (i : ℕ) × (i < length settled) × ((left : Left) → slice_get settled i ≡ Some (Some left) → 8 < length (left_items left))
 
--- so it is, or the lists that are settled take more places than words name
+-- so it is, or the lists that are settled take more slots than words name
 abbrev pub HasUnstated : List (Option Left) → Type 0
-HasUnstated settled = HasUnsettled settled ⊎ (2 ^ 14 - 1 ≤ sum_by settled_places settled)
+HasUnstated settled = HasUnsettled settled ⊎ (2 ^ 14 - 1 ≤ sum_by settled_slots settled)

@@ -5,7 +5,7 @@ use Rattle.std.specs.BTreeSet.{BTreeSet, contains}
 use Rattle.std.specs.Ordering.{nat_cmp}
 use Rattle.std.specs.Set.{distinct_count, is_member}
 
--- a list with a character, which is put behind the others where it isn't there
+-- a list with a character, which is put after the others where it isn't there
 abbrev pub with_new : List ℕ → ℕ → List ℕ
 with_new named c = cond (is_member nat_eq named c) named (named ++ c ∷ [])
 

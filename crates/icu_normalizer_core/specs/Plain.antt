@@ -1,6 +1,6 @@
 -- Characters of which tables say nothing and nothing is built in, Hangul syllables, and lists of all others.
 use Rattle.std.specs.Prelude.{◌≡◌, ℕ, ◌-◌, ◌*◌, ◌<◌, ◌≤◌, ◌⊎◌, true, List, length, slice_index, None}
-use Rattle.icu_codepointtrie.specs.Places.{has_cell, value_at}
+use Rattle.icu_codepointtrie.specs.Slots.{has_cell, value_at}
 use Rattle.icu_normalizer_core.specs.declared.canonical.tables.CanonicalTables.{CanonicalTables}
 use Rattle.icu_normalizer_core.specs.BuiltIn.{built_in_class, is_syllable}
 use Rattle.icu_normalizer_core.specs.Canonical.{IsFree}
@@ -53,16 +53,16 @@ pub record Tells (lists : CanonicalLists) (told : List ℕ) : Type 0 where
   pub words : (c : ℕ) → c < 0x110000 → IsIn told c ⊎ IsUntold lists c
   pub triples : AreTriples lists.steps → (c : ℕ) → c < 0x110000 → IsIn told c ⊎ IsUnlisted lists.steps c
 
--- of rising triples, counted by threes, those before the place are below the code point and the others are not
-pub record IsCursor (steps : List ℕ) (code place : ℕ) : Type 0 where
-  pub within : 3 * place ≤ length steps
-  pub below : 0 < place → slice_index steps (3 * (place - 1)) < code
-  pub above : 3 * place < length steps → code ≤ slice_index steps (3 * place)
+-- of rising triples, counted by threes, those before the index are below the code point and the others are not
+pub record IsCursor (steps : List ℕ) (code index : ℕ) : Type 0 where
+  pub within : 3 * index ≤ length steps
+  pub below : 0 < index → slice_index steps (3 * (index - 1)) < code
+  pub above : 3 * index < length steps → code ≤ slice_index steps (3 * index)
 
--- the list tells of the code points below one; of rising triples those before the place are theirs
-pub record TellsBelow (lists : CanonicalLists) (told : List ℕ) (code place : ℕ) : Type 0 where
+-- the list tells of the code points below one; of rising triples those before the index are theirs
+pub record TellsBelow (lists : CanonicalLists) (told : List ℕ) (code index : ℕ) : Type 0 where
   pub rises : Rises told
   pub below : (i : ℕ) → i < length told → slice_index told i < code
   pub words : (c : ℕ) → c < code → IsIn told c ⊎ IsUntold lists c
-  pub cursor : AreTriples lists.steps → IsCursor lists.steps code place
+  pub cursor : AreTriples lists.steps → IsCursor lists.steps code index
   pub triples : AreTriples lists.steps → (c : ℕ) → c < code → IsIn told c ⊎ IsUnlisted lists.steps c

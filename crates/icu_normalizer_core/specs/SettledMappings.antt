@@ -47,9 +47,9 @@ pub record IsSound (over : Mappings) : Type 0 where
 abbrev pub StartsLeft : (ℕ → List ℕ) → List ℕ → Left → Type 0
 StartsLeft step text left = (list : List ℕ) × Leaves step text list × (left_items left ≡ take 9 list)
 
--- the mapping at a place
+-- the mapping at an index
 abbrev pub mapping_at : List GivenCompatibility → ℕ → List ℕ
-mapping_at given place = elim (slice_get given place) [ Some g ↦ g.mapping.items | None ↦ [] ]
+mapping_at given index = elim (slice_get given index) [ Some g ↦ g.mapping.items | None ↦ [] ]
 
 -- what is known is right
 pub record AreMappingStarts (step : ℕ → List ℕ) (given : List GivenCompatibility) (settled : List (Option Left)) : Type 0 where
@@ -60,7 +60,7 @@ pub record AreMappingStarts (step : ℕ → List ℕ) (given : List GivenCompati
 abbrev pub IsOpenMapping : List GivenCompatibility → List (Option Left) → ℕ → Type 0
 IsOpenMapping given settled c =
     IsFree c × (built_in_compatibility_step c ≡ None)
-    × ((place : ℕ) × (place < length given) × (first_given given c ≡ slice_get given place) × (slice_get settled place ≡ Some None))
+    × ((index : ℕ) × (index < length given) × (first_given given c ≡ slice_get given index) × (slice_get settled index ≡ Some None))
 
 -- canonical steps leave such a character of a text
 abbrev pub HasOpen : (ℕ → List ℕ) → List GivenCompatibility → List (Option Left) → List ℕ → Type 0
@@ -102,7 +102,7 @@ pub record IsBehindBuiltIn (list : List ℕ) : Type 0 where
   pub scalars : All IsScalar named
   pub is : list ≡ (0xff9e ∷ 0xff9f ∷ []) ++ (built_in_named ++ named)
 
--- how many places the full list of a character takes at most; that of one with a built-in mapping takes none
+-- how many slots the full list of a character takes at most; that of one with a built-in mapping takes none
 abbrev pub full_room : (ℕ → List ℕ) → ℕ → ℕ
 full_room step c = cond (is_some (built_in_step c)) 0 (list_room step (step c))
 
@@ -122,6 +122,6 @@ pub record AreFullWords (step : ℕ → List ℕ) (class : ℕ → ℕ) (words :
   pub scalars16 : words.scalars16 ≡ []
   pub each : (c : ℕ) → IsScalar c → IsFullWord step (class c) words.scalars24 c (words.word c)
 
--- there is a character of which no word is right, or full lists of these characters may take more places than words name
+-- there is a character of which no word is right, or full lists of these characters may take more slots than words name
 abbrev pub LacksWords : (ℕ → List ℕ) → List ℕ → Type 0
 LacksWords step named = HasBadLeft step ⊎ (2 ^ 14 - 1 ≤ sum_by (full_room step) named)

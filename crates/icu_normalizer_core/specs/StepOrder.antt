@@ -5,11 +5,11 @@ use Rattle.icu_normalizer_core.specs.Canonical.{Reaches}
 use Rattle.icu_normalizer_core.specs.declared.step_order.Walk.{Walk}
 use Rattle.icu_normalizer_core.specs.declared.step_order.Walk.TheVariants.{Loop, InOrder}
 
--- a character stands in a list before a place
+-- a character stands in a list before an index
 abbrev pub StandsBefore : List ℕ → ℕ → ℕ → Type 0
-StandsBefore list place c = (j : ℕ) × (j < place) × (slice_index list j ≡ c)
+StandsBefore list index c = (j : ℕ) × (j < index) × (slice_index list j ≡ c)
 
--- characters, each once, and each behind all that its step gives
+-- characters, each once, and each after all that its step gives
 pub record AreInOrder (step : ℕ → List ℕ) (list : List ℕ) : Type 0 where
   pub distinct : IsDistinct nat_eq list
   pub behind : (k : ℕ) → k < length list → (d : ℕ) → Contains (step (slice_index list k)) d → StandsBefore list k d

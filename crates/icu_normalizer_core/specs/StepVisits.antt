@@ -8,16 +8,16 @@ use Rattle.icu_normalizer_core.specs.declared.step_order.Visit.{Visit}
 abbrev pub to_be_entered : ℕ → Visit
 to_be_entered c = record { character = c; is_entered = false }
 
--- the visit at a place of a stack
+-- the visit at an index of a stack
 abbrev pub character_at : List Visit → ℕ → ℕ
 character_at stack i = (slice_index_or stack i (to_be_entered 0)).character
 
 abbrev pub entered_at : List Visit → ℕ → Bool
 entered_at stack i = (slice_index_or stack i (to_be_entered 0)).is_entered
 
--- A character is left, or one of n visits from a place on is to it.
+-- A character is left, or one of n visits from an index on is to it.
 abbrev pub IsCovered : (ℕ → Option Bool) → ℕ → (ℕ → ℕ) → ℕ → ℕ → Type 0
-IsCovered is_left n characters place c = (is_left c ≡ Some true) ⊎ ((j : ℕ) × (place ≤ j) × (j < n) × (characters j ≡ c))
+IsCovered is_left n characters index c = (is_left c ≡ Some true) ⊎ ((j : ℕ) × (index ≤ j) × (j < n) × (characters j ≡ c))
 
 -- A walk that has n visits to make, these characters left so far in order, and notes of what it entered whether it is left.
 pub record IsWalkingOn (step : ℕ → List ℕ) (starts order : List ℕ) (is_left : ℕ → Option Bool) (n : ℕ) (characters : ℕ → ℕ) (entered : ℕ → Bool) : Type 0 where

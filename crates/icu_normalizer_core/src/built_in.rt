@@ -53,12 +53,12 @@ fn syllable_step(c: u32) -> Decomposed
     requires { is_syllable c ≡ true }
     ensures { mapped_to result ≡ syllable_step c }
 {
-    let place = c - 0xac00;
-    let trailing = place % 28;
+    let index = c - 0xac00;
+    let trailing = index % 28;
     if trailing == 0 {
         Decomposed::Expansion(
-            letter(0x1100 + place / 588),
-            letter(0x1161 + place % 588 / 28),
+            letter(0x1100 + index / 588),
+            letter(0x1161 + index % 588 / 28),
         )
     } else {
         Decomposed::Expansion(letter(c - trailing), letter(0x11a7 + trailing))
@@ -72,8 +72,8 @@ pub fn syllable_of(first: u32, second: u32) -> Option<char>
     ensures { result ≡ syllable_of first second }
 {
     if (0x1100..=0x1112).contains(&first) && (0x1161..=0x1175).contains(&second) {
-        let place = (first - 0x1100) * 21 + (second - 0x1161);
-        Some(letter(0xac00 + place * 28))
+        let index = (first - 0x1100) * 21 + (second - 0x1161);
+        Some(letter(0xac00 + index * 28))
     } else if is_open_syllable(first) && (0x11a8..=0x11c2).contains(&second) {
         Some(letter(first + (second - 0x11a7)))
     } else {

@@ -121,7 +121,7 @@ fn lone_char(unit: u16) -> char
     char::from_u32(unit as u32).unwrap_or(char::REPLACEMENT_CHARACTER)
 }
 
-// The first character, and the units behind it.
+// The first character, and the units after it.
 #[tactic(auto, using(crate::proofs::decoded::Utf16Lemmas::none_left, crate::proofs::decoded::Utf16Lemmas::first_pair))]
 fn first_char(units: &[u16]) -> Option<(char, &[u16])>
     ensures { MatchOption result (utf16_chars units.now ≡ []) (λ r. utf16_chars units.now ≡ r.0 ∷ utf16_chars r.1.now) }

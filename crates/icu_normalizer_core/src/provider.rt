@@ -1,7 +1,7 @@
 //! What canonical and compatibility data are loaded from.
 
 ghost use Rattle.std.specs.Prelude.{ℕ, List, Result};
-ghost use Rattle.icu_codepointtrie.specs.Places.{TrieTables};
+ghost use Rattle.icu_codepointtrie.specs.Slots.{TrieTables};
 ghost use Rattle.icu_normalizer_core.specs.declared.provider.error.DataError.{DataError};
 ghost use Rattle.icu_normalizer_core.specs.declared.provider.provider_lists.NfdLists.{NfdLists};
 ghost use Rattle.icu_normalizer_core.specs.declared.provider.provider_lists.NfkdLists.{NfkdLists};

@@ -1,4 +1,4 @@
-//! Mapping steps followed from characters on: a loop of steps, or else all characters that they lead to, each behind those
+//! Mapping steps followed from characters on: a loop of steps, or else all characters that they lead to, each after those
 //! that its own step gives.
 
 ghost use Rattle.std.specs.Prelude.{◌≡◌, ℕ, ◌==◌, ◌++◌, ◌<◌, List, Some, cond, map, IfOk, OnOk};
@@ -17,7 +17,7 @@ pub trait Steps {
     /// The characters that a character's step gives; none where it has no step.
     ghost step: { Self → ℕ → List ℕ };
 
-    /// Puts the characters that a character's step gives behind a list.
+    /// Puts the characters that a character's step gives after a list.
     ///
     /// Errors: `AllocError` where memory is refused.
     fn add_step(&self, character: char, list: &mut Vec<char>) -> Result<(), AllocError>
@@ -29,7 +29,7 @@ pub trait Steps {
 pub enum Walk {
     /// Steps lead from this character back to itself.
     Loop(char),
-    /// The characters where the walk began and all that steps lead to from them: each once, and behind all that its own
+    /// The characters where the walk began and all that steps lead to from them: each once, and after all that its own
     /// step gives.
     InOrder(Vec<char>),
 }

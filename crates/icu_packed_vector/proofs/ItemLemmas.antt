@@ -21,11 +21,11 @@ count_is w n k p e =
 
 pub length-items_of : {T : Type 0} (w : ℕ) (m : List ℕ → T) (bytes : List ℕ) → length (items_of w m bytes) ≡ length bytes / w
 unfolding items_of
-length-items_of w m bytes = length-map-range_with_len (λ place. m (item_bytes w bytes place)) 0 (length bytes / w)
+length-items_of w m bytes = length-map-range_with_len (λ index. m (item_bytes w bytes index)) 0 (length bytes / w)
 
 pub get_or-items_of : {T : Type 0} (w : ℕ) (m : List ℕ → T) (bytes : List ℕ) (i : ℕ) (d : T) → i < length bytes / w → get_or (items_of w m bytes) i d ≡ m (item_bytes w bytes i)
 unfolding items_of
-get_or-items_of w m bytes i d h = get_or-map-range_with_len (λ place. m (item_bytes w bytes place)) 0 (length bytes / w) i i d h (omega arith)
+get_or-items_of w m bytes i d h = get_or-map-range_with_len (λ index. m (item_bytes w bytes index)) 0 (length bytes / w) i i d h (omega arith)
 
 pub slice_get-items_of : {T : Type 0} (w : ℕ) (m : List ℕ → T) (bytes : List ℕ) (i : ℕ) → i < length bytes / w → slice_get (items_of w m bytes) i ≡ Some (m (item_bytes w bytes i))
 slice_get-items_of w m bytes i h =
@@ -35,8 +35,8 @@ slice_get-items_of w m bytes i h =
 pub slice_get-items_of_past : {T : Type 0} (w : ℕ) (m : List ℕ → T) (bytes : List ℕ) (i : ℕ) → length bytes / w ≤ i → slice_get (items_of w m bytes) i ≡ None
 slice_get-items_of_past w m bytes i h = slice_get_past (items_of w m bytes) i (rw length-items_of h)
 
-first_place : (i : ℕ) → i < 1 → i ≡ 0
-first_place i h = omega arith
+first_index : (i : ℕ) → i < 1 → i ≡ 0
+first_index i h = omega arith
 
 -- the bytes are this number of items
 pub AreItems_count : {IsGood : List ℕ → Type 0} (w : ℕ) (bytes : List ℕ) → 0 < w → AreItems w IsGood bytes → length bytes ≡ length bytes / w * w
@@ -73,8 +73,8 @@ items_of-append {T} w m xs ys n k p e f =
     λ i d h. get_or-items_of w m (xs ++ ys) i d (omega arith) ∙ ap m (item_bytes_front w xs ys n i e h)
     ∙ sym (get_or-items_of w m xs i d (omega arith)) ∙ sym (get_or_append_left before behind d i (omega arith)) in
     let at_back : (i : ℕ) (d : T) → n ≤ i → i < n + k → get_or all i d ≡ get_or (before ++ behind) i d =
-    λ i d h l. let place : i ≡ n + (i - n) = omega arith in
-    get_or-items_of w m (xs ++ ys) i d (omega arith) ∙ ap (λ q. m (item_bytes w (xs ++ ys) q)) place
+    λ i d h l. let index : i ≡ n + (i - n) = omega arith in
+    get_or-items_of w m (xs ++ ys) i d (omega arith) ∙ ap (λ q. m (item_bytes w (xs ++ ys) q)) index
     ∙ ap m (item_bytes_back w xs ys n (i - n) e)
     ∙ sym (get_or-items_of w m ys (i - n) d (omega arith)) ∙ sym (get_or-append_right before behind n i d n_before h) in
     same_lists all (before ++ behind) (omega (arith, length-append before behind))
@@ -86,14 +86,14 @@ unfolding items_of
 items_of-one w m xs p e =
     let once : length xs ≡ 1 * w = omega arith in
     let none : 0 * w ≡ 0 = omega arith in
-    ap (λ c. map (λ place. m (item_bytes w xs place)) (range_with_len 0 c)) (count_is w 1 (length xs) p once).0
+    ap (λ c. map (λ index. m (item_bytes w xs index)) (range_with_len 0 c)) (count_is w 1 (length xs) p once).0
     ∙ ap (λ k. m (take w (drop k xs)) ∷ []) none ∙ ap (λ ys. m ys ∷ []) (take_all w xs (omega arith))
 
 pub items_of-nil : {T : Type 0} (w : ℕ) (m : List ℕ → T) → 0 < w → items_of w m [] ≡ []
 unfolding items_of
 items_of-nil w m p =
     let none : 0 ≡ 0 * w = omega arith in
-    ap (λ c. map (λ place. m (item_bytes w [] place)) (range_with_len 0 c)) (count_is w 0 0 p none).0
+    ap (λ c. map (λ index. m (item_bytes w [] index)) (range_with_len 0 c)) (count_is w 0 0 p none).0
 
 module _ {IsGood : List ℕ → Type 0} where
   -- joined bytes are good where both parts are
@@ -110,8 +110,8 @@ module _ {IsGood : List ℕ → Type 0} where
         each = λ i h. elim (cases_lt i n) [
           | inl low ↦ subst IsGood (sym (item_bytes_front w xs ys n i e low)) (a.each i low)
           | inr high ↦
-              let place : n + (i - n) ≡ i = omega arith in
-              subst (λ q. IsGood (item_bytes w (xs ++ ys) q)) place (subst IsGood (sym (item_bytes_back w xs ys n (i - n) e)) (b.each (i - n) (omega arith)))
+              let index : n + (i - n) ≡ i = omega arith in
+              subst (λ q. IsGood (item_bytes w (xs ++ ys) q)) index (subst IsGood (sym (item_bytes_back w xs ys n (i - n) e)) (b.each (i - n) (omega arith)))
         ];
       }
 
@@ -128,7 +128,7 @@ module _ {IsGood : List ℕ → Type 0} where
       record {
         whole = c.1;
         each = λ i h.
-            let none : 0 ≡ i * w = omega (arith, ap (λ j. j * w) (first_place i (omega arith))) in
+            let none : 0 ≡ i * w = omega (arith, ap (λ j. j * w) (first_index i (omega arith))) in
             subst (λ k. IsGood (take w (drop k xs))) none (subst IsGood (sym (take_all w xs (omega arith))) good);
       }
 
@@ -176,7 +176,7 @@ part_in_middle front part behind s k e f =
     let size : s + k - s ≡ k = omega arith in
     ap (λ n. take n (drop s (front ++ (part ++ behind)))) size ∙ ap (take k) (drop_at front (part ++ behind) s e) ∙ take_at part behind k f
 
--- what a range of places has, of whole items in three parts
+-- what a range of indices has, of whole items in three parts
 record Parts (w s k j : ℕ) (bytes : List ℕ) : Type 0 where
   pub front : List ℕ
   pub part : List ℕ
@@ -218,7 +218,7 @@ module _ {T : Type 0} (w : ℕ) (m : List ℕ → T) (p : 0 < w) where
       let q = parts w s k j bytes e in
       ap (items_of w m) q.part_is ∙ sym (items_of_parts s k j bytes q)
 
-  -- the items of a range of places
+  -- the items of a range of indices
   pub items_of-range : (s e : ℕ) (bytes : List ℕ) → length bytes % w ≡ 0 → s ≤ e → e ≤ length bytes / w → items_of w m (slice_range bytes (s * w) (e * w)) ≡ slice_range (items_of w m bytes) s e
   items_of-range s e bytes a h l =
       let n = length bytes / w in
@@ -297,9 +297,9 @@ pub items_are_values : {T : Type 0} {IsGood : List ℕ → Type 0} (IsValue : T 
     → ((item : List ℕ) → All (λ byte. byte < 2 ^ 8) item → length item ≡ w → IsGood item → IsValue (m item))
     → 0 < w → All (λ byte. byte < 2 ^ 8) bytes → AreItems w IsGood bytes → All IsValue (items_of w m bytes)
 items_are_values {T} {IsGood} IsValue w m bytes law p small good = λ i d h.
-    let place : i < length bytes / w = rw length-items_of at h in
+    let index : i < length bytes / w = rw length-items_of at h in
     let whole = whole_count w bytes p good.whole in
-    let room = product_below w (length bytes / w) i place in
+    let room = product_below w (length bytes / w) i index in
     let width : length (item_bytes w bytes i) ≡ w = length-take-le w (drop (i * w) bytes) (simp length-drop (omega (arith, whole, room))) in
     let item_small = All-take (λ byte. byte < 2 ^ 8) w (drop (i * w) bytes) (All-drop (λ byte. byte < 2 ^ 8) (i * w) bytes small) in
-    subst IsValue (sym (get_or-items_of w m bytes i d place)) (law (item_bytes w bytes i) item_small width (good.each i place))
+    subst IsValue (sym (get_or-items_of w m bytes i d index)) (law (item_bytes w bytes i) item_small width (good.each i index))

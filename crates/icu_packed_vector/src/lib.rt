@@ -25,7 +25,7 @@ pub enum PackedVecError {
     /// The bytes end within an item.
     #[error("the bytes end within an item")]
     OddLength,
-    /// The item at this place is the first that isn't a value of the type.
+    /// The item at this index is the first that isn't a value of the type.
     #[error("item {0} isn't a value of its type")]
     BadValue(usize),
 }
@@ -62,28 +62,28 @@ impl<'a, T: PackedItem> Model for PackedVec<'a, T> {
     ghost invariant = { λ inside. AreItems T.WIDTH T.is_encoding (bytes_of inside.bytes) };
 }
 
-/// The item at a place of whole items.
+/// The item at an index of whole items.
 #[inline]
-fn read_at<T: PackedItem>(bytes: &[u8], place: usize) -> T
+fn read_at<T: PackedItem>(bytes: &[u8], index: usize) -> T
     requires items { AreItems T.WIDTH T.is_encoding bytes.now }
-    requires place { place < length bytes.now / T.WIDTH }
-    ensures meaning { result ≡ T.meaning (item_bytes T.WIDTH bytes.now place) }
+    requires index { index < length bytes.now / T.WIDTH }
+    ensures meaning { result ≡ T.meaning (item_bytes T.WIDTH bytes.now index) }
     ensures value { T.is_value result }
 {
-    let start = place * T::WIDTH;
+    let start = index * T::WIDTH;
     T::read(&bytes[start..start + T::WIDTH])
 }
 
-/// Whether the bytes at a place mean an item.
-fn is_item_at<T: PackedItem>(bytes: &[u8], place: usize) -> bool
-    requires { place < length bytes.now / T.WIDTH }
-    ensures { IsTrue result ↔ T.is_encoding (item_bytes T.WIDTH bytes.now place) }
+/// Whether the bytes at an index mean an item.
+fn is_item_at<T: PackedItem>(bytes: &[u8], index: usize) -> bool
+    requires { index < length bytes.now / T.WIDTH }
+    ensures { IsTrue result ↔ T.is_encoding (item_bytes T.WIDTH bytes.now index) }
 {
-    let start = place * T::WIDTH;
+    let start = index * T::WIDTH;
     T::is_item(&bytes[start..start + T::WIDTH])
 }
 
-/// The bytes of a range of places of whole items.
+/// The bytes of a range of indices of whole items.
 fn bytes_between<T: PackedItem>(bytes: &[u8], range: Range<usize>) -> &[u8]
     requires items { AreItems T.WIDTH T.is_encoding bytes.now }
     requires start { range.start ≤ range.end }
@@ -96,7 +96,7 @@ fn bytes_between<T: PackedItem>(bytes: &[u8], range: Range<usize>) -> &[u8]
 
 impl<'a, T: PackedItem> PackedVec<'a, T> {
     /// The items that these bytes mean, borrowed. Refused as `OddLength` where the bytes end within
-    /// an item, else as `BadValue` of the first place whose bytes aren't a value of the type, such as
+    /// an item, else as `BadValue` of the first index whose bytes aren't a value of the type, such as
     /// the three bytes of a surrogate.
     pub fn try_from_bytes(bytes: &'a [u8]) -> Result<PackedVec<'a, T>, PackedVecError>
         ensures { MatchResult result
@@ -106,9 +106,9 @@ impl<'a, T: PackedItem> PackedVec<'a, T> {
         if bytes.len() % T::WIDTH != 0 {
             return Err(PackedVecError::OddLength);
         }
-        for place in 0..bytes.len() / T::WIDTH {
-            if !is_item_at::<T>(bytes, place) {
-                return Err(PackedVecError::BadValue(place));
+        for index in 0..bytes.len() / T::WIDTH {
+            if !is_item_at::<T>(bytes, index) {
+                return Err(PackedVecError::BadValue(index));
             }
         }
         Ok(PackedVec {
@@ -145,29 +145,29 @@ impl<'a, T: PackedItem> PackedVec<'a, T> {
         self.len() == 0
     }
 
-    /// The item at a place, which is a value of the type, or `None` past the end.
+    /// The item at an index, which is a value of the type, or `None` past the end.
     #[inline]
-    pub fn get(&self, place: usize) -> Option<T>
-        ensures item { result ≡ slice_get self.now place }
+    pub fn get(&self, index: usize) -> Option<T>
+        ensures item { result ≡ slice_get self.now index }
         ensures value { IfSome result T.is_value }
     {
         let bytes = self.as_bytes();
-        if place < bytes.len() / T::WIDTH {
-            Some(read_at(bytes, place))
+        if index < bytes.len() / T::WIDTH {
+            Some(read_at(bytes, index))
         } else {
             None
         }
     }
 
-    /// The item at a place before the end, as a slice is indexed, for callers who know by `len` that
-    /// the place is one; `get` answers at every place. It takes no memory.
+    /// The item at an index before the end, as a slice is indexed, for callers who know by `len` that
+    /// the index is one; `get` answers at every index. It takes no memory.
     #[inline]
-    pub fn at(&self, place: usize) -> T
-        requires { place < length self.now }
-        ensures item { (fallback : T) → result ≡ slice_index_or self.now place fallback }
+    pub fn at(&self, index: usize) -> T
+        requires { index < length self.now }
+        ensures item { (fallback : T) → result ≡ slice_index_or self.now index fallback }
         ensures value { T.is_value result }
     {
-        read_at(self.as_bytes(), place)
+        read_at(self.as_bytes(), index)
     }
 
     /// The items in order, from both ends. Each is a value of the type.
@@ -178,7 +178,7 @@ impl<'a, T: PackedItem> PackedVec<'a, T> {
         PackedIter::new(self.as_bytes())
     }
 
-    /// The items of a range of places, borrowed, or `None` where the range falls or ends past the
+    /// The items of a range of indices, borrowed, or `None` where the range falls or ends past the
     /// last item.
     pub fn subslice(&self, range: Range<usize>) -> Option<PackedVec<'_, T>>
         ensures { SomeIff result ((range.start ≤ range.end) × (range.end ≤ length self.now)) (slice_range self.now range.start range.end) }

@@ -194,10 +194,10 @@ impl Numbers {
                 self.numbers.pop()?;
             }
             Change::Invert(bit) => {
-                let place = bit.checked_div(self.bits)?;
+                let index = bit.checked_div(self.bits)?;
                 let bit = u32::try_from(bit.checked_rem(self.bits)?).ok()?;
                 let mask = 1u32.checked_shl(bit)?;
-                *self.numbers.get_mut(place)? ^= mask;
+                *self.numbers.get_mut(index)? ^= mask;
             }
         }
         Some(())
@@ -205,8 +205,8 @@ impl Numbers {
 
     /// Appends them to a text.
     fn write(&self, text: &mut String) -> Option<()> {
-        for (place, number) in self.numbers.iter().enumerate() {
-            let separator = if place == 0 { "" } else { ", " };
+        for (index, number) in self.numbers.iter().enumerate() {
+            let separator = if index == 0 { "" } else { ", " };
             write!(text, "{separator}{number}").ok()?;
         }
         Some(())
@@ -227,7 +227,7 @@ fn push_changed(
     text.push_str("]\n").ok()
 }
 
-/// A trie's text with a change of the numbers behind some words, of so many bits each.
+/// A trie's text with a change of the numbers after some words, of so many bits each.
 fn changed_text(
     alloc: Global,
     text: &str,

@@ -225,8 +225,8 @@ fn quaternary_bytes(weight: u64) -> Bytes {
     }
 }
 
-/// Appends the half bytes of cases in pairs, the upper one first, and 0 behind an odd one. Cases that are all the
-/// lowest are written with upper case first alone.
+/// Appends the half bytes of cases in pairs, the upper one first, and 0 after an odd one. Cases that are all the lowest
+/// are written with upper case first alone.
 fn push_cases(
     alloc: Global,
     key: &mut Vec<u8>,
@@ -281,10 +281,10 @@ fn push_quaternaries(
 /// A whole number of tails: differences are counted from here, so that none is below 0.
 const ZERO: u64 = TAILS * TAILS * TAILS;
 
-/// The number of bytes that may stand behind a lead byte.
+/// The number of bytes that may stand after a lead byte.
 const TAILS: u64 = 253;
 
-/// Appends the tail of a place: 0 is the last.
+/// Appends the tail of an index: 0 is the last.
 fn push_tail(key: &mut Vec<u8>, number: u64) -> Option<()> {
     push_byte(key, 3 + number % TAILS)
 }
@@ -334,7 +334,7 @@ fn push_difference(key: &mut Vec<u8>, counted: u64) -> Option<()> {
     }
 }
 
-/// What the character behind another one is counted from.
+/// What the character after another one is counted from.
 fn counted_from(last: u64) -> u64 {
     if 0x4e00 <= last && last <= 0x9fff {
         return 0x9fff - 10_667;
@@ -361,7 +361,7 @@ fn push_characters(key: &mut Vec<u8>, weights: &[u64]) -> Option<()> {
     Some(())
 }
 
-/// Appends the levels behind the primaries that stand at a strength.
+/// Appends the levels after the primaries that stand at a strength.
 fn push_further(alloc: Global, key: &mut Vec<u8>, levels: &Levels) -> Option<()> {
     let options = levels.options;
     if options.strength.is_at_least(Strength::Secondary) {

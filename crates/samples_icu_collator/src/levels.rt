@@ -153,7 +153,7 @@ impl Levels {
         Some(())
     }
 
-    /// Appends the quaternaries of elements; the elements that aren't shifted. One without primary behind one that is
+    /// Appends the quaternaries of elements; the elements that aren't shifted. One without primary after one that is
     /// shifted counts as none.
     fn push_quaternaries(
         &mut self,

@@ -24,8 +24,8 @@ const COMMON_REST: u64 = 0x0500_0500;
 /// A character of a list that is left to be read.
 #[derive(Clone, Copy, Debug)]
 struct Left {
-    /// Its place in the whole list.
-    place: usize,
+    /// Its index in the whole list.
+    index: usize,
     /// The character.
     c: char,
 }
@@ -67,7 +67,7 @@ fn with(alloc: Global, text: &[char], c: char) -> Option<Vec<char>> {
     Some(longer)
 }
 
-/// A copy of what is left from a place on.
+/// A copy of what is left from an index on.
 fn left_from(alloc: Global, left: &[Left], count: usize) -> Option<Vec<Left>> {
     let mut rest = Vec::new(alloc);
     rest.extend_from_slice(left.get(count..)?).ok()?;
@@ -75,9 +75,9 @@ fn left_from(alloc: Global, left: &[Left], count: usize) -> Option<Vec<Left>> {
 }
 
 impl Reading<'_> {
-    /// The elements of a character behind the longest of its prefixes that stands before it, if one is recorded.
+    /// The elements of a character after the longest of its prefixes that stands before it, if one is recorded.
     fn prefixed(&self, tables: &Tables<'_>, first: Left) -> Option<Vec<u64>> {
-        let before = self.whole.get(..first.place)?;
+        let before = self.whole.get(..first.index)?;
         let mut found = None;
         for count in 1..=PREFIX_LIMIT {
             let from = before.len().checked_sub(count)?;
@@ -201,11 +201,11 @@ impl Reading<'_> {
     }
 }
 
-/// The characters of a list, with their places.
+/// The characters of a list, with their indices.
 fn all_of(alloc: Global, whole: &[char]) -> Option<Vec<Left>> {
     let mut all = Vec::new(alloc);
-    for (place, c) in whole.iter().enumerate() {
-        all.push(Left { place, c: *c }).ok()?;
+    for (index, c) in whole.iter().enumerate() {
+        all.push(Left { index, c: *c }).ok()?;
     }
     Some(all)
 }

@@ -29,7 +29,7 @@ w 0323 ; [0.8C00.0.0500.0]
 set groups 2A18 2A28 2A58 2A88
 ";
 
-/// What stands behind them: further records of the worked rows, and such by which each list of the root, of the
+/// What stands after them: further records of the worked rows, and such by which each list of the root, of the
 /// tailoring and of the canonical tables has items.
 const MORE: &str = "class 0300 230
 map 00E2 0061 0302
@@ -99,13 +99,13 @@ fn cut_leads(alloc: Global, tables: &mut CollationTables<'static>) -> Option<()>
     Some(())
 }
 
-/// The characters of a list from a place on.
+/// The characters of a list from an index on.
 fn scalars_from(
     alloc: Global,
     scalars: &PackedVec<'_, char>,
-    place: usize,
+    index: usize,
 ) -> Option<PackedVec<'static, char>> {
-    let rest: Vec<char> = scalars.iter().skip(place).collect(alloc).ok()?;
+    let rest: Vec<char> = scalars.iter().skip(index).collect(alloc).ok()?;
     PackedVec::from_slice(alloc, rest.as_slice()).ok()
 }
 

@@ -1,4 +1,4 @@
-//! The characters at which no reading begins, by what tables mean: marks, characters that stand behind the first of a text
+//! The characters at which no reading begins, by what tables mean: marks, characters that stand after the first of a text
 //! that is recorded or have a prefix that is, and characters whose full list begins with one of these.
 
 use icu_char16trie::read_units;
@@ -29,10 +29,10 @@ fn has_context(word: u32) -> bool {
     low == 0xc8 || low == 0xc9
 }
 
-/// The two units from a place on as a word.
-fn word_at(source: &CollationData<'_>, place: usize) -> Option<u32> {
-    let upper = source.contexts.get(place)?;
-    let lower = source.contexts.get(place.wrapping_add(1))?;
+/// The two units from an index on as a word.
+fn word_at(source: &CollationData<'_>, index: usize) -> Option<u32> {
+    let upper = source.contexts.get(index)?;
+    let lower = source.contexts.get(index.wrapping_add(1))?;
     Some((u32::from(upper) << 16) | u32::from(lower))
 }
 
@@ -44,8 +44,8 @@ fn push_keys(
     unsafe_characters: &mut Vec<char>,
 ) -> Option<()> {
     let contexts = &source.contexts;
-    let place = (word >> 13) as usize;
-    let units = contexts.subslice(place.wrapping_add(2)..contexts.len())?;
+    let index = (word >> 13) as usize;
+    let units = contexts.subslice(index.wrapping_add(2)..contexts.len())?;
     let keys = read_units(alloc, &units, MOST_UNITS).ok()?;
     for (key, _) in keys.iter() {
         for c in decode_utf16(key.as_slice()) {
@@ -55,7 +55,7 @@ fn push_keys(
     Some(())
 }
 
-/// Appends a character that has prefixes, and those that stand behind it in texts.
+/// Appends a character that has prefixes, and those that stand after it in texts.
 fn push_of_word(
     alloc: Global,
     source: &CollationData<'_>,
@@ -78,7 +78,7 @@ fn push_of_word(
 fn is_apart(both: Both<'_>, c: char) -> bool {
     let count = both.collation.diacritics.secondaries.len();
     let is_diacritic = match (c as u32).checked_sub(0x300) {
-        Some(place) => (place as usize) < count && class_of(both.canonical, c) != 0,
+        Some(index) => (index as usize) < count && class_of(both.canonical, c) != 0,
         None => false,
     };
     is_diacritic || ('\u{1100}' <= c && c <= '\u{11ff}')
@@ -114,7 +114,7 @@ fn push_of_data(
     Some(())
 }
 
-/// The characters that stand behind the first of a recorded text, or have a recorded prefix.
+/// The characters that stand after the first of a recorded text, or have a recorded prefix.
 pub fn unsafe_by_records(alloc: Global, both: Both<'_>) -> Option<Vec<char>> {
     let mut unsafe_characters = Vec::new(alloc);
     push_of_data(

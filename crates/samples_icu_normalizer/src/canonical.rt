@@ -21,11 +21,11 @@ const BUILT_IN: [(char, u8, &str); 7] = [
 /// The first syllable, and the number of syllables.
 const SYLLABLES: (u32, u32) = (0xac00, 11172);
 
-/// The place of a syllable among all.
+/// The index of a syllable among all.
 fn syllable(c: char) -> Option<u32> {
-    let place = (c as u32).checked_sub(SYLLABLES.0)?;
-    if place < SYLLABLES.1 {
-        Some(place)
+    let index = (c as u32).checked_sub(SYLLABLES.0)?;
+    if index < SYLLABLES.1 {
+        Some(index)
     } else {
         None
     }
@@ -60,13 +60,13 @@ fn push_number(list: &mut Vec<char>, number: u32) -> Option<()> {
 }
 
 /// Appends the two parts of a syllable.
-fn push_parts(list: &mut Vec<char>, place: u32) -> Option<()> {
-    if place % 28 == 0 {
-        push_number(list, 0x1100u32.wrapping_add(place / 588))?;
-        return push_number(list, 0x1161u32.wrapping_add(place % 588 / 28));
+fn push_parts(list: &mut Vec<char>, index: u32) -> Option<()> {
+    if index % 28 == 0 {
+        push_number(list, 0x1100u32.wrapping_add(index / 588))?;
+        return push_number(list, 0x1161u32.wrapping_add(index % 588 / 28));
     }
-    let last = place % 28;
-    push_number(list, SYLLABLES.0.wrapping_add(place).wrapping_sub(last))?;
+    let last = index % 28;
+    push_number(list, SYLLABLES.0.wrapping_add(index).wrapping_sub(last))?;
     push_number(list, 0x11a7u32.wrapping_add(last))
 }
 
@@ -90,8 +90,8 @@ fn push_listed(tables: &CanonicalTables<'_>, list: &mut Vec<char>, c: char) -> O
 
 /// Appends what a character is mapped to, or the character.
 fn push_mapped(tables: &CanonicalTables<'_>, list: &mut Vec<char>, c: char) -> Option<()> {
-    if let Some(place) = syllable(c) {
-        return push_parts(list, place);
+    if let Some(index) = syllable(c) {
+        return push_parts(list, index);
     }
     match built_in(c) {
         Some((_, parts)) => {
@@ -113,7 +113,7 @@ fn mapped(alloc: Global, tables: &CanonicalTables<'_>, list: &[char]) -> Option<
     Some(mapped)
 }
 
-/// Puts a character behind the others; a mark before the marks of higher classes that are last.
+/// Puts a character after the others; a mark before the marks of higher classes that are last.
 fn put_in_order(tables: &CanonicalTables<'_>, list: &mut Vec<char>, c: char) -> Option<()> {
     let class = class_of(tables, c);
     let count = list
@@ -146,16 +146,16 @@ fn syllable_of(first: char, second: char) -> Option<char> {
     let (first, second) = (first as u32, second as u32);
     if let (Some(leading), Some(vowel)) = (first.checked_sub(0x1100), second.checked_sub(0x1161)) {
         if leading < 19 && vowel < 21 {
-            let place = leading
+            let index = leading
                 .wrapping_mul(21)
                 .wrapping_add(vowel)
                 .wrapping_mul(28);
-            return char::from_u32(SYLLABLES.0.wrapping_add(place));
+            return char::from_u32(SYLLABLES.0.wrapping_add(index));
         }
     }
     let last = second.checked_sub(0x11a7)?;
-    let place = first.checked_sub(SYLLABLES.0)?;
-    if place < SYLLABLES.1 && place % 28 == 0 && 0 < last && last < 28 {
+    let index = first.checked_sub(SYLLABLES.0)?;
+    if index < SYLLABLES.1 && index % 28 == 0 && 0 < last && last < 28 {
         return char::from_u32(first.wrapping_add(last));
     }
     None
@@ -176,20 +176,20 @@ fn composed_pair(tables: &CanonicalTables<'_>, first: char, second: char) -> Opt
     None
 }
 
-/// The composed character of the last starter of a list and one behind it, with the starter's place.
+/// The composed character of the last starter of a list and one after it, with the starter's index.
 fn composed_last(tables: &CanonicalTables<'_>, list: &[char], c: char) -> Option<(usize, char)> {
     let marks = list
         .iter()
         .rev()
         .take_while(|mark| class_of(tables, **mark) != 0)
         .count();
-    let place = list.len().checked_sub(marks)?.checked_sub(1)?;
-    let between = list.get(place.wrapping_add(1)..)?;
+    let index = list.len().checked_sub(marks)?.checked_sub(1)?;
+    let between = list.get(index.wrapping_add(1)..)?;
     let class = class_of(tables, c);
     if between.iter().any(|mark| class_of(tables, *mark) >= class) {
         return None;
     }
-    Some((place, composed_pair(tables, *list.get(place)?, c)?))
+    Some((index, composed_pair(tables, *list.get(index)?, c)?))
 }
 
 /// The composed list of a decomposed one.
@@ -197,7 +197,7 @@ pub fn composed(alloc: Global, tables: &CanonicalTables<'_>, list: &[char]) -> O
     let mut composed: Vec<char> = Vec::new(alloc);
     for c in list {
         match composed_last(tables, composed.as_slice(), *c) {
-            Some((place, z)) => *composed.get_mut(place)? = z,
+            Some((index, z)) => *composed.get_mut(index)? = z,
             None => composed.push(*c).ok()?,
         }
     }

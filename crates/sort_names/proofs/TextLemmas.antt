@@ -10,7 +10,7 @@ pub no_lines : (end : ℕ) → lines_of end [] ≡ []
 unfolding lines_of
 no_lines end = refl
 
--- the first line of a text and those behind it, by the length of the first
+-- the first line of a text and those after it, by the length of the first
 abbrev Parts : ℕ → List ℕ → ℕ → Type 0
 Parts end text len = lines_of end text ≡ take len text ∷ lines_of end (drop (len + 1) text)
 

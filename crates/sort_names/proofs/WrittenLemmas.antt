@@ -17,7 +17,7 @@ appends-then (Some old) None c xs ys h k = absurd h
 appends-then (Some old) (Some bs) None xs ys h k = absurd k
 appends-then (Some old) (Some bs) (Some cs) xs ys h k = k ∙ ap (λ (zs : List ℕ). zs ++ ys) h ∙ append_assoc old xs ys
 
--- what is found at a place of what is made of values is made of the value there
+-- what is found at an index of what is made of values is made of the value there
 pub found_mapped : {A : Type 0} (v : A → List ℕ) (xs : List A) (k : ℕ) (y : List ℕ) (x : A) → Some y ≡ slice_get (map v xs) k → slice_get xs k ≡ Some x → y ≡ v x
 found_mapped v xs k y x found is = let both : Some y ≡ Some (v x) = found ∙ slice_get-map v xs k ∙ ap (option_map v) is in cc
 

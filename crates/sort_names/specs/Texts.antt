@@ -41,7 +41,7 @@ line_by shape line = record { line = line; text = compared shape line }
 abbrev pub listed : Shape → List ℕ → List Line
 listed shape text = map (line_by shape) (lines_of shape.end text)
 
--- a list with the lines of texts behind its own
+-- a list with the lines of texts after its own
 abbrev pub with_texts : Shape → Listing → List (List ℕ) → Listing
 with_texts shape list texts = record list { lines = list.lines ++ flat_map (listed shape) texts }
 
@@ -50,7 +50,7 @@ abbrev pub sorted : Bool → LineRule → List Line → List Line
 sorted false rule lines = in_order (line_order rule) lines
 sorted true rule lines = first_of_equals (line_order rule) (in_order (line_order rule) lines)
 
--- the key of a line as it is written, with a TAB behind it
+-- the key of a line as it is written, with a TAB after it
 abbrev pub key_text : LineRule → Line → List ℕ
 key_text rule line = encode_lower (key_by_rule rule line.text) ++ 9 ∷ []
 
@@ -59,7 +59,7 @@ abbrev pub key_before : Bool → LineRule → Line → List ℕ
 key_before false rule line = []
 key_before true rule line = key_text rule line
 
--- a line as it is written: behind its key, where keys are asked for, and with the byte that ends it
+-- a line as it is written: after its key, where keys are asked for, and with the byte that ends it
 abbrev pub written : ℕ → Bool → LineRule → Line → List ℕ
 written end keys rule line = key_before keys rule line ++ (line.line ++ end ∷ [])
 

@@ -21,7 +21,7 @@ pub trait Content<'w>: Drop {
     ) -> Result<(), RunFault<'w>>;
 }
 
-/// The lines of a list as they stand, behind a text.
+/// The lines of a list as they stand, after a text.
 #[derive(Drop)]
 pub struct Listed<'l, 'o> {
     pub alloc: Global,
@@ -29,7 +29,7 @@ pub struct Listed<'l, 'o> {
     pub list: &'l LineList<'o>,
     /// The byte that ends a line.
     pub end: u8,
-    /// Whether each line is written behind its key.
+    /// Whether each line is written after its key.
     pub keys: bool,
 }
 
@@ -67,9 +67,9 @@ pub struct Merging<'m, 'w, R: BufRead + Drop> {
     pub paths: Vec<&'w str>,
 }
 
-/// What is called so by its place; standard input past the last.
-fn path_at<'w>(paths: &[&'w str], place: usize) -> &'w str {
-    match paths.get(place) {
+/// What is called so by its index; standard input past the last.
+fn path_at<'w>(paths: &[&'w str], index: usize) -> &'w str {
+    match paths.get(index) {
         Some(path) => *path,
         None => "-",
     }
@@ -87,7 +87,7 @@ fn merge_fault<'w>(error: MergeError, paths: &[&'w str], path: Option<&'w str>) 
     }
 }
 
-/// Why a write failed, which may be want of memory.
+/// Why a write failed, which may be refused memory.
 fn write_fault<'w>(error: io::Error, path: Option<&'w str>) -> RunFault<'w> {
     if error.kind() == io::ErrorKind::OutOfMemory {
         RunFault::Memory

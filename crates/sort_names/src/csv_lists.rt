@@ -10,7 +10,7 @@ use std::alloc::Global;
 #[derive(Drop)]
 pub struct Header {
     record: ByteRecord,
-    place: usize,
+    index: usize,
 }
 
 /// Why a record can't be read or written.
@@ -19,7 +19,7 @@ fn fault_of<'w>(path: &'w str, error: Error) -> RunFault<'w> {
         ErrorKind::Io(error) => RunFault::Unreadable(path, error),
         ErrorKind::UnequalLengths { pos, .. } => {
             let line = match pos {
-                Some(place) => place.line(),
+                Some(index) => index.line(),
                 None => 0,
             };
             RunFault::Ragged(path, line)
@@ -49,8 +49,8 @@ fn is_same(a: &ByteRecord, b: &ByteRecord) -> bool {
     if a.len() != b.len() {
         return false;
     }
-    for place in 0..a.len() {
-        if a.get(place) != b.get(place) {
+    for index in 0..a.len() {
+        if a.get(index) != b.get(index) {
             return false;
         }
     }
@@ -58,8 +58,8 @@ fn is_same(a: &ByteRecord, b: &ByteRecord) -> bool {
 }
 
 /// Which field of a header has this name; `None` where none has.
-fn place_of(record: &ByteRecord, column: &str) -> Option<usize> {
-    (0..record.len()).find(|place| record.get(*place) == Some(column.as_bytes()))
+fn index_of(record: &ByteRecord, column: &str) -> Option<usize> {
+    (0..record.len()).find(|index| record.get(*index) == Some(column.as_bytes()))
 }
 
 /// The header that a record is, where it has the column and is like that of the files before.
@@ -77,8 +77,8 @@ fn header_of<'w>(
                 Err(RunFault::OtherHeader(path))
             }
         }
-        None => match place_of(&record, column) {
-            Some(place) => Ok(Header { record, place }),
+        None => match index_of(&record, column) {
+            Some(index) => Ok(Header { record, index }),
             None => Err(RunFault::NoColumn(path, column)),
         },
     }
@@ -95,9 +95,9 @@ impl Header {
     }
 }
 
-/// Adds the records of a CSV text behind those of a list, but for the first, which is its header. `before` is the header of
-/// the files before; the header is answered, `None` where there is none yet and the text has no record. `finder` looks at what
-/// is compared, if that is wanted.
+/// Adds the records of a CSV text after those of a list, but for the first, which is its header. `before` is the header of the
+/// files before; the header is answered, `None` where there is none yet and the text has no record. `finder` looks at what is
+/// compared, if that is wanted.
 ///
 /// Errors: a record has another number of fields than the header, which is told by its line; the header isn't that of the files
 /// before, or doesn't name the column; or memory is refused.
@@ -131,7 +131,7 @@ pub fn add_records<'w>(
             Err(error) => return Err(fault_of(path, error)),
         }
         let line = line_of(alloc, path, &record)?;
-        let field = record.get(header.place).unwrap_or(b"");
+        let field = record.get(header.index).unwrap_or(b"");
         if let Some(finder) = finder {
             finder.look_at_text(field)?;
         }

@@ -17,7 +17,7 @@ pub struct Draft<'w> {
     source: Option<Source<'w>>,
     /// Where the order comes from if no other word says so.
     default: Option<Source<'w>>,
-    /// The words that give options, behind an empty one.
+    /// The words that give options, after an empty one.
     option_words: Vec<String>,
     /// The first operand that gives an option.
     option_operand: Option<&'w str>,

@@ -66,7 +66,7 @@ pub fn separator_of(text: &str) -> Option<u8> {
     }
 }
 
-/// How many bytes of memory a word gives: a number of KiB, or one behind which the letter of another unit stands: `b` for
+/// How many bytes of memory a word gives: a number of KiB, or one after which the letter of another unit stands: `b` for
 /// bytes, `K`, `M`, `G` or `T`. `None` for any other, and past all numbers.
 pub fn size_of(text: &str) -> Option<usize> {
     let units: [(char, usize); 5] = [

@@ -17,7 +17,7 @@ pub enum Switch {
     CheckSilently,
     /// `-m`: files that are in order are merged.
     Merge,
-    /// `--keys`: each line behind its key.
+    /// `--keys`: each line after its key.
     Keys,
     /// `--crlf`: a CR before a line's end belongs to it.
     CrLf,
@@ -73,7 +73,7 @@ pub enum Flag {
     Setting(Setting),
 }
 
-/// The flag of a letter behind `-`.
+/// The flag of a letter after `-`.
 pub fn flag_of_letter(letter: char) -> Option<Flag> {
     let switch = match letter {
         'r' => Switch::Reverse,
@@ -94,7 +94,7 @@ pub fn flag_of_letter(letter: char) -> Option<Flag> {
     Some(Flag::Switch(switch))
 }
 
-/// The switch of a name behind `--`.
+/// The switch of a name after `--`.
 fn switch_of_name(name: &str) -> Option<Switch> {
     let switch = match name {
         "reverse" => Switch::Reverse,
@@ -119,7 +119,7 @@ fn switch_of_name(name: &str) -> Option<Switch> {
     Some(switch)
 }
 
-/// The flag of a name behind `--`, which no value follows behind `=`.
+/// The flag of a name after `--`, which no value follows after `=`.
 pub fn flag_of_name(name: &str) -> Option<Flag> {
     if let Some(switch) = switch_of_name(name) {
         return Some(Flag::Switch(switch));

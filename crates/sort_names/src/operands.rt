@@ -48,7 +48,7 @@ pub fn read_text<'w, F: Read + Drop>(
     }
 }
 
-/// Adds the lines of an operand behind those of a list.
+/// Adds the lines of an operand after those of a list.
 ///
 /// Errors: it can't be opened or read, or memory is refused; the list is of no use then.
 fn add_operand<'w, F: Read + Drop, O: Fn(&str) -> io::Result<F>>(
@@ -71,7 +71,7 @@ fn add_operand<'w, F: Read + Drop, O: Fn(&str) -> io::Result<F>>(
     }
 }
 
-/// Adds the lines of all operands, one behind another, behind those of a list.
+/// Adds the lines of all operands, one after another, after those of a list.
 ///
 /// Errors: one can't be opened or read, or memory is refused; the list is of no use then.
 pub fn add_operands<'w, F: Read + Drop, O: Fn(&str) -> io::Result<F>>(

@@ -65,20 +65,20 @@ fn add_key(alloc: Global, text: &mut Vec<u8>, key: &[u8]) -> Result<(), AllocErr
     Ok(())
 }
 
-/// Adds what stands before the line at a place: its key, where keys are asked for.
+/// Adds what stands before the line at an index: its key, where keys are asked for.
 fn add_front(
     alloc: Global,
     text: &mut Vec<u8>,
     list: &LineList<'_>,
-    place: usize,
+    index: usize,
     keys: bool,
 ) -> Result<(), AllocError>
-    ensures { (line : Line) → slice_get list.now.lines place ≡ Some line → OnOk result (text.new.items ≡ text.old.items ++ key_before keys list.now.rule line) }
+    ensures { (line : Line) → slice_get list.now.lines index ≡ Some line → OnOk result (text.new.items ≡ text.old.items ++ key_before keys list.now.rule line) }
 {
     if !keys {
         return Ok(());
     }
-    match list.key(place) {
+    match list.key(index) {
         Some(key) => add_key(alloc, text, key),
         None => Ok(()),
     }
@@ -93,19 +93,19 @@ fn add_ended(text: &mut Vec<u8>, line: &[u8], end: u8) -> Result<(), AllocError>
     Ok(())
 }
 
-/// Adds the line at a place to a text, as it is written.
+/// Adds the line at an index to a text, as it is written.
 fn add_line(
     alloc: Global,
     text: &mut Vec<u8>,
     list: &LineList<'_>,
-    place: usize,
+    index: usize,
     end: u8,
     keys: bool,
 ) -> Result<(), AllocError>
-    ensures { (line : Line) → slice_get list.now.lines place ≡ Some line → OnOk result (text.new.items ≡ text.old.items ++ written end keys list.now.rule line) }
+    ensures { (line : Line) → slice_get list.now.lines index ≡ Some line → OnOk result (text.new.items ≡ text.old.items ++ written end keys list.now.rule line) }
 {
-    add_front(alloc, text, list, place, keys)?;
-    match list.get(place) {
+    add_front(alloc, text, list, index, keys)?;
+    match list.get(index) {
         Some(line) => add_ended(text, line, end),
         None => Ok(()),
     }
@@ -125,7 +125,7 @@ fn send_much<W: Write>(writer: &mut W, gathered: &mut Vec<u8>) -> io::Result<()>
     Ok(())
 }
 
-/// Writes the lines of a list as they stand, each with the byte that ends it, and behind its key where keys are asked for.
+/// Writes the lines of a list as they stand, each with the byte that ends it, and after its key where keys are asked for.
 ///
 /// Errors: memory is refused, or a write fails; a first part may then be written.
 pub fn write_lines<W: Write>(
@@ -138,15 +138,15 @@ pub fn write_lines<W: Write>(
     ensures { OnOk result (Appends (W.contents writer.old) (W.contents writer.new) (text_of end keys list.now)) }
 {
     let mut gathered = Vec::new(alloc);
-    for place in 0..list.len() {
-        add_line(alloc, &mut gathered, list, place, end, keys)?;
+    for index in 0..list.len() {
+        add_line(alloc, &mut gathered, list, index, end, keys)?;
         send_much(writer, &mut gathered)?;
     }
     writer.write_all(&gathered)?;
     Ok(())
 }
 
-/// Writes a text, and behind it the lines of a list, as `write_lines` does.
+/// Writes a text, and after it the lines of a list, as `write_lines` does.
 ///
 /// Errors: those of `write_lines`.
 pub fn write_behind<W: Write>(

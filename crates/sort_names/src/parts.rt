@@ -173,7 +173,7 @@ impl<'r, 'o, 'w> Parts<'r, 'o, 'w> {
         })
     }
 
-    /// Takes a line behind all others.
+    /// Takes a line after all others.
     fn add(&mut self, line: &[u8]) -> Result<(), RunFault<'w>> {
         self.list.add(line, part(&self.request.shape, line))?;
         self.lines = self.lines.saturating_add(1);
@@ -184,7 +184,7 @@ impl<'r, 'o, 'w> Parts<'r, 'o, 'w> {
         }
     }
 
-    /// Takes the lines of a reader, which is called so, behind all others.
+    /// Takes the lines of a reader, which is called so, after all others.
     ///
     /// Errors: the reader fails, memory is refused, or a part can't be kept; what was read is of no use then.
     pub fn read<R: BufRead + Drop>(

@@ -85,7 +85,7 @@ pub struct Request<'w> {
     pub order: OrderChoice<'w>,
     /// What a line is.
     pub shape: Shape,
-    /// Whether each line is written behind its key.
+    /// Whether each line is written after its key.
     pub keys: bool,
     /// How many bytes of memory the lines may fill before they are kept in parts; `None` for any.
     pub size: Option<usize>,

@@ -28,13 +28,13 @@ pub enum Ended {
 }
 
 /// Says which line is out of order, with its text.
-fn tell_disorder(rt: &HostRuntime, request: &Request<'_>, place: usize, line: &[u8]) {
+fn tell_disorder(rt: &HostRuntime, request: &Request<'_>, index: usize, line: &[u8]) {
     let path = match request.operands.first() {
         Some(path) => *path,
         None => "-",
     };
     let mut errors = rt.stderr();
-    let number = place.saturating_add(1);
+    let number = index.saturating_add(1);
     let _ = eprint!(rt; "sort_names: {}:{number}: disorder: ", Shown(path));
     let _ = errors.write_all(line);
     let _ = errors.write_all(b"\n");
@@ -42,11 +42,11 @@ fn tell_disorder(rt: &HostRuntime, request: &Request<'_>, place: usize, line: &[
 
 /// Looks for the first line out of order, and says which it is where that isn't to be silent.
 fn check(rt: &HostRuntime, request: &Request<'_>, list: &LineList<'_>, silent: bool) -> Ended {
-    let Some(place) = list.first_unordered(request.order.unique) else {
+    let Some(index) = list.first_unordered(request.order.unique) else {
         return Ended::Well;
     };
-    if !silent && let Some(line) = list.get(place) {
-        tell_disorder(rt, request, place, line);
+    if !silent && let Some(line) = list.get(index) {
+        tell_disorder(rt, request, index, line);
     }
     Ended::OutOfOrder
 }
@@ -129,7 +129,7 @@ fn sort<'w>(
     end(rt, sent, finder.as_ref())
 }
 
-/// Sorts the records of CSV files by a column: behind the header, which is that of all of them.
+/// Sorts the records of CSV files by a column: after the header, which is that of all of them.
 fn sort_csv<'w, F: Read + Drop, O: Fn(&str) -> io::Result<F>>(
     rt: &HostRuntime,
     request: &Request<'w>,

@@ -17,7 +17,7 @@ impl fmt::Display for Shown<'_> {
     }
 }
 
-/// A character by its code point, and itself behind it, where it is no control character.
+/// A character by its code point, and itself after it, where it is no control character.
 #[derive(Clone, Copy)]
 pub struct Character(pub char);
 

@@ -27,7 +27,7 @@ pub fn len_before(end: u8, text: &[u8]) -> usize
     passed
 }
 
-/// What stands behind the first so many bytes of a text and one byte more.
+/// What stands after the first so many bytes of a text and one byte more.
 fn behind(text: &[u8], len: usize) -> &[u8]
     requires { len ≤ length text.now }
     ensures { result.now ≡ drop (len + 1) text.now }
@@ -56,7 +56,7 @@ pub fn part<'l>(shape: &Shape, line: &'l [u8]) -> Option<&'l [u8]>
     }
 }
 
-/// Adds the lines of a text behind those of a list.
+/// Adds the lines of a text after those of a list.
 ///
 /// Errors: `AllocError` where memory is refused; a first part of the lines may then stand in the list.
 #[tactic(auto, using(crate::proofs::TextLemmas::add_step, crate::proofs::TextLemmas::add_end))]

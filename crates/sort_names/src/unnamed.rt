@@ -84,8 +84,8 @@ impl<'o> Finder<'o> {
 
     /// Looks at a character of a line. Answers whether the records name it.
     fn look_at(&mut self, character: char, line: usize) -> Result<bool, AllocError> {
-        let place = character as usize;
-        if let Some(true) = self.named.get(place) {
+        let index = character as usize;
+        if let Some(true) = self.named.get(index) {
             return Ok(true);
         }
         if let Some(found) = self.unnamed.get_mut(&character) {
@@ -93,7 +93,7 @@ impl<'o> Finder<'o> {
             return Ok(false);
         }
         if self.asks_named(character)? {
-            if let Some(named) = self.named.get_mut(place) {
+            if let Some(named) = self.named.get_mut(index) {
                 *named = true;
             }
             return Ok(true);
@@ -134,8 +134,8 @@ impl<'o> Finder<'o> {
     ///
     /// Errors: `AllocError` where memory is refused.
     pub fn look(&mut self, shape: &Shape, list: &LineList<'_>) -> Result<(), AllocError> {
-        for place in 0..list.len() {
-            let Some(line) = list.get(place) else {
+        for index in 0..list.len() {
+            let Some(line) = list.get(index) else {
                 break;
             };
             self.look_at_text(without_cr(compared(shape, line)))?;
@@ -163,7 +163,7 @@ impl<'o> Finder<'o> {
     }
 }
 
-/// "line" or "lines", by how many there are, and the verb behind it.
+/// "line" or "lines", by how many there are, and the verb after it.
 fn lines_that(count: usize, one: &'static str, more: &'static str) -> &'static str {
     if count == 1 { one } else { more }
 }
@@ -182,8 +182,8 @@ impl Found {
             "{} {verb} characters that the records don't name:",
             self.lines
         )?;
-        for (place, found) in self.characters.iter().take(MOST_TOLD).enumerate() {
-            if place > 0 {
+        for (index, found) in self.characters.iter().take(MOST_TOLD).enumerate() {
+            if index > 0 {
                 text.push_str(",")?;
             }
             let shown = Character(found.character);

@@ -13,7 +13,7 @@ struct Words<'w> {
 }
 
 impl<'w> Words<'w> {
-    /// The next word; `None` behind the last.
+    /// The next word; `None` after the last.
     fn take_next(&mut self) -> Option<&'w str> {
         let (first, others) = self.rest.split_first()?;
         self.rest = others;
@@ -75,7 +75,7 @@ fn take_setting<'w>(
     Ok(Taken::Part)
 }
 
-/// Takes a word of letters behind `-`, as `-ru` or `-ofile`.
+/// Takes a word of letters after `-`, as `-ru` or `-ofile`.
 fn take_letters<'w>(
     draft: &mut Draft<'w>,
     word: &'w str,
@@ -103,7 +103,7 @@ fn take_letters<'w>(
     Ok(Taken::Part)
 }
 
-/// Takes a name behind `--`, as `--reverse`, `--output FILE`, `--output=FILE` or `--strength=primary`.
+/// Takes a name after `--`, as `--reverse`, `--output FILE`, `--output=FILE` or `--strength=primary`.
 fn take_name<'w>(
     draft: &mut Draft<'w>,
     word: &'w str,
@@ -133,7 +133,7 @@ fn take_name<'w>(
     }
 }
 
-/// Takes a word, and the values behind it.
+/// Takes a word, and the values after it.
 fn take_word<'w>(
     draft: &mut Draft<'w>,
     word: &'w str,
@@ -151,10 +151,10 @@ fn take_word<'w>(
     }
 }
 
-/// Reads the words of the program, without its name; parts are kept in the folder `temporary` where no word names one. Those that begin with `-` may stand behind the files, up to a word
-/// `--`, behind which all are files.
+/// Reads the words of the program, without its name; parts are kept in the folder `temporary` where no word names one. Those that begin with `-` may stand after the files, up to a word
+/// `--`, after which all are files.
 ///
-/// Errors: the first word that isn't understood, words that don't go together, or want of memory.
+/// Errors: the first word that isn't understood, words that don't go together, or refused memory.
 pub fn read_words<'w>(
     alloc: Global,
     words: &'w [String],

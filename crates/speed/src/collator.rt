@@ -9,7 +9,7 @@
 //! `speed collator RECORDS NAMES TASK ROUNDS [OPTION=VALUE]..` prints the best of so many rounds. TASK is one of:
 //!
 //! - `names`: as above, but with the options that are given, in the words of `collate` (README.md); `keys`, `random`, `near`:
-//!   one of the three. With `16` behind it: the same of a file of names in UTF-16, low bytes first.
+//!   one of the three. With `16` after it: the same of a file of names in UTF-16, low bytes first.
 //! - `elements`: how many characters of the lines of a file are read in a second; `numeric_elements`: the same, with digits
 //!   read as numbers.
 //! - `try_new`: how many microseconds a check of the tables takes, with tries of type `Small` and of type `Fast`.
@@ -54,7 +54,7 @@ fn run(
     }
 }
 
-/// The task that words name, and behind it its rounds and the options; with no words, three rounds of all with no options.
+/// The task that words name, and after it its rounds and the options; with no words, three rounds of all with no options.
 fn task_and_choice(words: &[String]) -> Option<(&str, Choice<'_>)> {
     let Some((task, rest)) = words.split_first() else {
         let choice = Choice {

@@ -20,7 +20,7 @@ fn answer_short(rt: &HostRuntime, words: &[String]) -> io::Result<()> {
     collator::answer(rt, &[])
 }
 
-/// Does what the words behind a subject ask of it; where there is no such subject, the error has the usage.
+/// Does what the words after a subject ask of it; where there is no such subject, the error has the usage.
 fn answer(rt: &HostRuntime, words: &[String]) -> io::Result<()> {
     let Some((subject, words)) = words.split_first() else {
         return Err(io::Error::other(USAGE));

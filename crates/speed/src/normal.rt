@@ -1,11 +1,11 @@
 //! Measures normal forms, and shows them: `speed normal RECORDS TEXTS TASK ROUNDS`, over the data of a records file and the
 //! lines of a file of texts.
 //!
-//! A task is the name of a form, `nfc`, `nfd`, `nfkc` or `nfkd`, and `_utf8` or `_utf16` behind it where the file is taken
+//! A task is the name of a form, `nfc`, `nfd`, `nfkc` or `nfkd`, and `_utf8` or `_utf16` after it where the file is taken
 //! as any bytes, or any units, low bytes first. Each text is brought to the form as many rounds as asked for, and the
-//! program prints how many bytes or units the forms have; with `is_` before it, how many texts are in the form.
-//! With `show_`, `tell_` or `split_` before it, it prints of each text its form, whether it is in the form, or the two
-//! parts that it is split in, before such a number. `try_new` and `try_new_k` load the data so often; `uts46` shows what a
+//! program prints how many bytes or units the forms have; with `is_` before it, how many texts are in the form. With
+//! `show_`, `tell_` or `split_` before it, it prints of each text its form, whether it is in the form, or the two parts
+//! that it is split in, before such a number. `try_new` and `try_new_k` load the data so often; `uts46` shows what a
 //! mapper gives.
 
 mod data;

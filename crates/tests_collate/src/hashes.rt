@@ -20,7 +20,7 @@ fn ok_hash_of(rt: HostRuntime) {
     );
 }
 
-/// Puts a hash behind the others, once there is room.
+/// Puts a hash after the others, once there is room.
 fn put(list: &mut HashList, hash: usize) -> Result<(), AllocError>
     requires { 0 < hash }
 {

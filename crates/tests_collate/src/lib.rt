@@ -19,10 +19,10 @@ mod option_words;
 #[cfg(test)]
 mod over;
 #[cfg(test)]
-mod places;
-#[cfg(test)]
 mod reloads;
 #[cfg(test)]
 mod runs;
+#[cfg(test)]
+mod slot_list;
 #[cfg(test)]
 mod worked;

@@ -9,7 +9,7 @@ use icu_collator_types::options::{
 use std::alloc::Global;
 use std::test::Fail;
 
-/// The options that a word chooses behind FILE.
+/// The options that a word chooses after FILE.
 fn options_by(alloc: Global, word: &str) -> Result<CollatorOptions, Fail> {
     let words = words_of(alloc, &["a.records", word])?;
     let choice = Choice::read(&words).ok_or("no choice")?;

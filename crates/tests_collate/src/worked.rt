@@ -12,7 +12,7 @@ use std::io::{self, BufReader, Read, Write};
 use std::process::Abort;
 use std::test::Fail;
 
-/// The commands, with the record lines behind them, and their replies. The last has a line too few.
+/// The commands, with the record lines after them, and their replies. The last has a line too few.
 const COMMANDS: [(&[&[u8]], &[u8]); 14] = [
     (&[b"add ch\n"], b"added\n"),
     (&[b"add cl\n"], b"added\n"),

@@ -81,7 +81,7 @@ fn canonical_word(alloc: Global, provider: &Provider, c: char) -> Option<u32> {
     }
 }
 
-/// The mappings, each as a character, what it is mapped to, and what behind that.
+/// The mappings, each as a character, what it is mapped to, and what after that.
 fn steps(alloc: Global, provider: &Provider) -> Option<Vec<u32>> {
     match provider.load_nfd_tables(alloc) {
         Ok(lists) => lists.steps.iter().collect(alloc).ok(),

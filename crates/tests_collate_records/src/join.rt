@@ -107,7 +107,7 @@ fn a_fault_is_of_the_file_that_has_the_line(rt: HostRuntime) -> Result<(), Fail>
     let tailoring = b"# without 0418 0306\nset alternate shifted".as_slice();
     let of_root = origin_of_fault(alloc, FAULTY_ROOT, tailoring)?;
     assert_eq!(rt; of_root, Some((Origin::Root(6), Rule::Grammar)));
-    // of two ranges that overlap the one behind is at fault
+    // of two ranges that overlap the one after is at fault
     let tailoring = b"# without 0418 0306\n\nrange 4E01 4E02 E0030200 1".as_slice();
     let of_tailoring = origin_of_fault(alloc, ROOT, tailoring)?;
     assert_eq!(rt; of_tailoring, Some((Origin::Tailoring(3), Rule::V6)));

@@ -7,7 +7,7 @@ use collate_records::rule::{RecordsError, Rule};
 use std::alloc::{AllocError, Global};
 use std::test::Fail;
 
-/// A line that breaks `C1`, which is asked behind `limit`. It names characters of one block, and takes no room for a list.
+/// A line that breaks `C1`, which is asked after `limit`. It names characters of one block, and takes no room for a list.
 const MAPPED_MARK: &str = "map 0300 0301\n";
 
 /// Eight elements that break `V1`.

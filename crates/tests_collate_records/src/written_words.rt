@@ -25,17 +25,17 @@ fn value_of(answer: TrieResult) -> Option<i32> {
     }
 }
 
-/// What the units of the context at a place answer to those of a key.
+/// What the units of the context at an index answer to those of a key.
 fn answer_in(
     alloc: Global,
     contexts: &[u16],
-    place: usize,
+    index: usize,
     key: &[u16],
 ) -> Result<TrieResult, AllocError> {
-    if contexts.len() < 2 || contexts.len() - 2 < place {
+    if contexts.len() < 2 || contexts.len() - 2 < index {
         return Ok(TrieResult::NoMatch);
     }
-    let trie = Char16Trie::new(PackedVec::from_slice(alloc, &contexts[place + 2..])?);
+    let trie = Char16Trie::new(PackedVec::from_slice(alloc, &contexts[index + 2..])?);
     let mut cursor = trie.iter();
     let mut answer = TrieResult::NoMatch;
     for unit in key {
@@ -44,17 +44,17 @@ fn answer_in(
     Ok(answer)
 }
 
-/// The value of a key in the context at a place, if it has one.
+/// The value of a key in the context at an index, if it has one.
 fn value_in(
     alloc: Global,
     contexts: &[u16],
-    place: usize,
+    index: usize,
     key: &[u16],
 ) -> Result<Option<i32>, AllocError> {
-    Ok(value_of(answer_in(alloc, contexts, place, key)?))
+    Ok(value_of(answer_in(alloc, contexts, index, key)?))
 }
 
-/// The word of a letter that is recorded behind "xy", before U+FF41 and, there without elements, before U+1D165; and the
+/// The word of a letter that is recorded after "xy", before U+FF41 and, there without elements, before U+1D165; and the
 /// contexts that it names.
 fn write_contexts(alloc: Global) -> Result<(u32, Vec<u16>), AllocError> {
     let elements = [LETTER];
@@ -98,19 +98,19 @@ fn keys_are_sorted_by_units(rt: HostRuntime) -> Result<(), Fail> {
     let (word, contexts) = write_contexts(alloc)?;
     let contexts = contexts.as_slice();
     assert_eq!(rt; word & 0xff, 0xc8);
-    let place = (word >> 13) as usize;
-    assert!(rt; place + 1 < contexts.len());
-    let behind = (u32::from(contexts[place]) << 16) + u32::from(contexts[place + 1]);
+    let index = (word >> 13) as usize;
+    assert!(rt; index + 1 < contexts.len());
+    let behind = (u32::from(contexts[index]) << 16) + u32::from(contexts[index + 1]);
     assert_eq!(rt; behind & 0x1fff, 0x0cc9);
-    let before = value_in(alloc, contexts, place, &[0x79, 0x78])?;
+    let before = value_in(alloc, contexts, index, &[0x79, 0x78])?;
     assert_eq!(rt; before, Some(0x2a10_0505));
-    assert_eq!(rt; value_in(alloc, contexts, place, &[0x78, 0x79])?, None);
-    let place = (behind >> 13) as usize;
-    let listed = value_in(alloc, contexts, place, &[0xff41])?;
+    assert_eq!(rt; value_in(alloc, contexts, index, &[0x78, 0x79])?, None);
+    let index = (behind >> 13) as usize;
+    let listed = value_in(alloc, contexts, index, &[0xff41])?;
     assert_eq!(rt; listed, Some(0x2a10_0505));
-    let empty = value_in(alloc, contexts, place, &[0xd834, 0xdd65])?;
+    let empty = value_in(alloc, contexts, index, &[0xd834, 0xdd65])?;
     assert_eq!(rt; empty, Some(0));
-    assert_eq!(rt; value_in(alloc, contexts, place, &[0xd834])?, None);
+    assert_eq!(rt; value_in(alloc, contexts, index, &[0xd834])?, None);
     Ok(())
 }
 

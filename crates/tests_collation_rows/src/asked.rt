@@ -1,4 +1,4 @@
-//! What collators are asked, a line each. `options OPTIONS` is no question, but makes a collator for the questions behind it: words
+//! What collators are asked, a line each. `options OPTIONS` is no question, but makes a collator for the questions after it: words
 //! with commas between them.
 //!
 //! - `compare ENCODING TEXT TEXT`: how two texts order. ENCODING is `text`, `utf8`, `utf16`, `latin1`, or `mixed`: the first
@@ -6,7 +6,7 @@
 //! - `key ENCODING TEXT`: the sort key of a text, in `text`, `utf8` or `utf16`.
 //! - `sink SINK TEXT`: what a sink holds that a key is written to, one of `deque`, `small`, or the length of a slice (module
 //!   `sinks`).
-//! - `place TEXT TEXT`: from which place two texts are read: `0`, `1 to 9`, or `at least 10`.
+//! - `place TEXT TEXT`: from which index two texts are read: `0`, `1 to 9`, or `at least 10`.
 //! - `options?`: the options that the collator goes by.
 
 use crate::asked_texts::{bytes, shown};
@@ -50,21 +50,21 @@ fn sink_answer(collator: &CollatorBorrowed<'_>, alloc: Global, words: &str) -> O
     sink_of(collator, alloc, sink, text)
 }
 
-/// What is told of a place: no more than is promised.
-fn told(place: usize) -> &'static str {
-    match place {
+/// What is told of an index: no more than is promised.
+fn told(index: usize) -> &'static str {
+    match index {
         0 => "0",
         1..=9 => "1 to 9",
         _ => "at least 10",
     }
 }
 
-/// The answer from which place two texts are read.
-fn place_answer(collator: &CollatorBorrowed<'_>, alloc: Global, words: &str) -> Option<String> {
+/// The answer from which index two texts are read.
+fn index_answer(collator: &CollatorBorrowed<'_>, alloc: Global, words: &str) -> Option<String> {
     let (left, right) = words.split_once(' ')?;
     let (left, right) = (bytes(alloc, left)?, bytes(alloc, right)?);
     let (left, right) = (str::from_utf8(&left).ok()?, str::from_utf8(&right).ok()?);
-    String::from_str(alloc, told(collator.reading_place(left, right))).ok()
+    String::from_str(alloc, told(collator.reading_start(left, right))).ok()
 }
 
 /// The answer with the options.
@@ -80,7 +80,7 @@ fn answer(collator: &CollatorBorrowed<'_>, alloc: Global, line: &str) -> Option<
         "compare" => order_answer(collator, alloc, words),
         "key" => key_answer(collator, alloc, words),
         "sink" => sink_answer(collator, alloc, words),
-        "place" => place_answer(collator, alloc, words),
+        "place" => index_answer(collator, alloc, words),
         "options?" => options_answer(collator, alloc),
         _ => None,
     }
@@ -153,7 +153,7 @@ fn ask_each(rt: &HostRuntime, both: &Both, lines: &str) -> Option<()> {
     Some(())
 }
 
-/// Asks collators over the tables of records, with the options of a line, what the lines behind that do; `None` as in
+/// Asks collators over the tables of records, with the options of a line, what the lines after that do; `None` as in
 /// `ask_over`.
 pub fn ask_collators(rt: &HostRuntime, records: &str, lines: &str) -> Option<()> {
     match held_both(rt.alloc(), records) {

@@ -1,4 +1,4 @@
-//! What tables are asked, a line each, behind one that says whether they are accepted. Characters are numbers in hexadecimal.
+//! What tables are asked, a line each, after one that says whether they are accepted. Characters are numbers in hexadecimal.
 //!
 //! - `read CHARACTER..`: the elements of a text as the reader of elements gives them, 64 bits in hexadecimal each; `plain`: as
 //!   they are read slowly, by the rules alone. `read_numbers` and `plain_numbers` read digits as numbers.
@@ -22,8 +22,8 @@ fn shown(alloc: Global, elements: &[u64]) -> Option<String> {
     if elements.is_empty() {
         line.push_str("-").ok()?;
     }
-    for (place, element) in elements.iter().enumerate() {
-        let separator = if place == 0 { "" } else { " " };
+    for (index, element) in elements.iter().enumerate() {
+        let separator = if index == 0 { "" } else { " " };
         write!(line, "{separator}{element:016x}").ok()?;
     }
     Some(line)
@@ -58,8 +58,8 @@ fn plain_answer(
 /// The answer whether characters are unsafe.
 fn unsafe_answer(tables: &CheckedTables<'_>, alloc: Global, text: &[char]) -> Option<String> {
     let mut line = String::new(alloc);
-    for (place, c) in text.iter().enumerate() {
-        let separator = if place == 0 { "" } else { " " };
+    for (index, c) in text.iter().enumerate() {
+        let separator = if index == 0 { "" } else { " " };
         let is_unsafe = tables.is_unsafe(*c);
         write!(line, "{separator}{is_unsafe}").ok()?;
     }

@@ -2,8 +2,8 @@
 //!
 //! The paragraphs of a script stand apart by an empty line. Each begins with a line that says what it is:
 //!
-//! - `records`: the lines behind it are a records file, which counts from there on.
-//! - `more`: so are these, behind those of the last `records`.
+//! - `records`: the lines after it are a records file, which counts from there on.
+//! - `more`: so are these, after those of the last `records`.
 //! - `file`: questions to the reader of records (module `files`).
 //! - `normalisers`: questions to normalisers over the records (module `forms`).
 //! - `collators`: questions to collators over the records (module `asked`).

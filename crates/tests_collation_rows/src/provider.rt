@@ -200,7 +200,7 @@ fn outcome(alloc: Global, held: &HeldCollation<'_>) -> Option<String> {
     }
 }
 
-/// Prints what collators over both providers are refused for behind a line, or that they are made.
+/// Prints what collators over both providers are refused for after a line, or that they are made.
 fn print_outcomes(rt: &HostRuntime, both: &Both, line: &str) -> Option<()> {
     let fast = outcome(rt.alloc(), &both.fast)?;
     let small = outcome(rt.alloc(), &both.small)?;

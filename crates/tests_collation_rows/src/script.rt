@@ -12,7 +12,7 @@ use std::alloc::Global;
 struct Records<'s> {
     /// The lines of a file.
     file: &'s str,
-    /// The lines behind those.
+    /// The lines after those.
     more: &'s str,
 }
 
@@ -23,7 +23,7 @@ impl<'s> Records<'s> {
         format!(in alloc; "{file}\n{more}").ok()
     }
 
-    /// The records that count behind a paragraph.
+    /// The records that count after a paragraph.
     fn behind(self, kind: &str, lines: &'s str) -> Records<'s> {
         match kind {
             "records" => Records {
@@ -39,7 +39,7 @@ impl<'s> Records<'s> {
     }
 }
 
-/// The two parts of a text before and behind the first separator; all of it, and nothing, where there is none.
+/// The two parts of a text before and after the first separator; all of it, and nothing, where there is none.
 pub fn halves(text: &str, separator: char) -> (&str, &str) {
     match text.split_once(separator) {
         Some(halves) => halves,

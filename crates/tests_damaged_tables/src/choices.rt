@@ -75,9 +75,9 @@ pub struct Choice {
     is_backward: bool,
 }
 
-/// The choice at a place below `COUNT`.
-pub fn choice_at(place: usize) -> Option<Choice> {
-    let (group, level) = (place / 5, place % 5);
+/// The choice at an index below `COUNT`.
+pub fn choice_at(index: usize) -> Option<Choice> {
+    let (group, level) = (index / 5, index % 5);
     let (alternate_handling, case_level, case_first, numeric, is_backward) = *OTHERS
         .get(group)?
         .get(level)?;
@@ -153,12 +153,12 @@ impl Choice {
     }
 }
 
-/// Whether no choice before a place has the values of two options that the one there has.
-fn is_first(place: usize, one: usize, next: usize) -> bool {
-    let Some(choice) = choice_at(place) else {
+/// Whether no choice before an index has the values of two options that the one there has.
+fn is_first(index: usize, one: usize, next: usize) -> bool {
+    let Some(choice) = choice_at(index) else {
         return false;
     };
-    (0..place).all(|before| match choice_at(before) {
+    (0..index).all(|before| match choice_at(before) {
         Some(other) => !choice.agrees(&other, one, next),
         None => true,
     })
@@ -167,10 +167,10 @@ fn is_first(place: usize, one: usize, next: usize) -> bool {
 /// How many different pairs of values of two options come together in a choice.
 pub fn pair_count() -> u32 {
     let mut count: u32 = 0;
-    for place in 0..COUNT {
+    for index in 0..COUNT {
         for one in 0..OPTIONS {
             for next in 0..one {
-                if is_first(place, one, next) {
+                if is_first(index, one, next) {
                     count = count.wrapping_add(1);
                 }
             }

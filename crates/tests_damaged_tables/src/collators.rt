@@ -60,7 +60,7 @@ struct Asked<'t> {
 }
 
 impl Asked<'_> {
-    /// The call that is wrong on a text and the one behind it, if one.
+    /// The call that is wrong on a text and the one after it, if one.
     fn wrong_on_pair(&self, text: &ReadText, next: &ReadText) -> Option<&'static str> {
         let Asked {
             alloc,
@@ -229,8 +229,8 @@ fn wrong_call(alloc: Global, held: &mut HeldCollation<'static>) -> Option<&'stat
     let Some((texts, latin1)) = texts.zip(read_latin1_texts(alloc, &held.canonical, &tables)) else {
         return Some("elements");
     };
-    for place in 0..COUNT {
-        let Some(choice) = choice_at(place) else {
+    for index in 0..COUNT {
+        let Some(choice) = choice_at(index) else {
             return Some("no choice");
         };
         held.tables.metadata = choice.metadata(held.tables.metadata);

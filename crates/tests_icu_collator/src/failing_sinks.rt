@@ -103,7 +103,7 @@ fn write_key(
     }
 }
 
-/// Whether a sink with so many calls left, and a byte in it, is told the whole key: then it holds that behind the byte. Where
+/// Whether a sink with so many calls left, and a byte in it, is told the whole key: then it holds that after the byte. Where
 /// it fails, its failure is told, and it holds the byte and a first part of the key. `None` where anything else came.
 fn is_written(
     collator: &CollatorBorrowed<'_>,

@@ -50,7 +50,7 @@ const SHIFTED: CollatorOptions = CollatorOptions {
     ..SHIFTED_PRIMARIES
 };
 
-/// Pieces behind one another, each so often.
+/// Pieces one after another, each so often.
 fn joined(alloc: Global, pieces: &[(&[u8], usize)]) -> Option<Vec<u8>> {
     let mut bytes = Vec::new(alloc);
     for (piece, count) in pieces {

@@ -20,7 +20,7 @@ where
     Ok(output)
 }
 
-/// Whether a vector with a byte in it has the key behind that.
+/// Whether a vector with a byte in it has the key after that.
 fn vector_holds_key(alloc: Global) -> bool {
     let mut sink = Vec::new(alloc);
     sink.push(1).is_ok()
@@ -63,7 +63,7 @@ fn ok_finish(rt: HostRuntime) {
     assert!(rt; queue_holds_key(rt.alloc()));
 }
 
-/// Writes the key to a slice of some length, and says what came, and what the slice and a byte behind it are then.
+/// Writes the key to a slice of some length, and says what came, and what the slice and a byte after it are then.
 fn written(length: usize) -> (Result<usize, TooSmall>, [u8; 5])
     requires { length ≤ 4 }
 {

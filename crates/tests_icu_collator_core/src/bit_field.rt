@@ -53,11 +53,11 @@ fn without_note(options: CollatorOptionsBitField) -> [bool; 7] {
     differences(a, b)
 }
 
-/// Asserts that options differ in value at most at a place, that they have a note there exactly if
+/// Asserts that options differ in value at most at an index, that they have a note there exactly if
 /// `is_given`, and that the other notes are the same.
 fn changes_one(
     rt: &impl Abort,
-    place: usize,
+    index: usize,
     before: CollatorOptionsBitField,
     after: CollatorOptionsBitField,
     is_given: bool,
@@ -65,11 +65,11 @@ fn changes_one(
     let values = differences(before, after);
     let (old_notes, new_notes) = (without_note(before), without_note(after));
     for at in 0..7 {
-        if at == place {
-            assert!(rt; new_notes[at] != is_given, "{place}");
+        if at == index {
+            assert!(rt; new_notes[at] != is_given, "{index}");
         } else {
-            assert!(rt; !values[at], "{place} {at}");
-            assert!(rt; old_notes[at] == new_notes[at], "{place} {at}");
+            assert!(rt; !values[at], "{index} {at}");
+            assert!(rt; old_notes[at] == new_notes[at], "{index} {at}");
         }
     }
 }

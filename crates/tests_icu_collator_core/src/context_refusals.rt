@@ -24,11 +24,11 @@ const CES: [u64; 1] = [0xe002_0200_0000_6101];
 
 const CE32S: [u32; 4] = [0x2a10_0505, 0x8800_05c2, 0xcf, 0xce];
 
-/// "a" behind a prefix, and "1", which is a digit.
+/// "a" after a prefix, and "1", which is a digit.
 const PREFIXED: Words = &[(0x61, 0xc8), (0x31, 0x1ca)];
 
 /// Prefixes of "a": of three characters, and of four; with a mark, a digit, a jamo, U+0000, half a pair; over an
-/// implicit element and over a range, which are no records. U+0301 behind a prefix.
+/// implicit element and over a range, which are no records. U+0301 after a prefix.
 const PREFIXES: [Row; 11] = [
     (
         PREFIXED,
@@ -89,8 +89,8 @@ const PREFIXES: [Row; 11] = [
     ),
 ];
 
-/// Texts that begin with "a": of eight characters, and of nine; half a pair; a letter behind a mark, within the text
-/// and behind U+0301; one that ends in a mark with the shorter text, and without it.
+/// Texts that begin with "a": of eight characters, and of nine; half a pair; a letter after a mark, within the text and
+/// after U+0301; one that ends in a mark with the shorter text, and without it.
 const TEXTS: [Row; 7] = [
     (
         &[(0x61, 0x8c9)],
@@ -141,8 +141,8 @@ const LETTER: &[u16] = &[0x2a10, 0x505, 0x30, 0x62, 0xffff, 0x2ac0, 0x505];
 
 const MARK: &[u16] = &[0x2a10, 0x505, 0x30, 0x301, 0xffff, 0x2ac0, 0x505];
 
-/// Words that say of these texts what is so: not every one goes on with a mark, none ends in one, and one has a
-/// starter behind the first; every one, one, and none. Then such that say one thing wrongly.
+/// Words that say of these texts what is so: not every one goes on with a mark, none ends in one, and one has a starter
+/// after the first; every one, one, and none. Then such that say one thing wrongly.
 const FLAGS: [Row; 8] = [
     (&[(0x61, 0x8c9)], LETTER, None),
     (&[(0x61, 0xac9)], LETTER, OF_A),

@@ -9,7 +9,7 @@ use samples_icu_collator::compiled::checked_tables;
 use std::alloc::Global;
 use std::str::Chars;
 
-/// Records of four letters; the third stands behind the first as its suffix too.
+/// Records of four letters; the third stands after the first as its suffix too.
 const RECORDS: &str = "w 0061 ; [2A100000.0500.0.0500.0]
 w 0062 ; [2A200000.0500.0.0500.0]
 w 0063 ; [2A300000.0500.0.0500.0]
@@ -99,7 +99,7 @@ fn is_read_behind(alloc: Global) -> bool {
         && gives(&mut elements, &[0x2a30_0000_0500_0500])
 }
 
-/// Whether nothing is given behind the last character.
+/// Whether nothing is given after the last character.
 fn is_given_whole(alloc: Global) -> bool {
     let Some(tables) = tables(alloc) else {
         return false;
@@ -117,7 +117,7 @@ fn ok_iter_next_before_init(rt: HostRuntime) {
     assert!(rt; is_given_whole(rt.alloc()));
 }
 
-/// Whether the last prepended character is read first, and those of the iterator behind all of them: "a", "b", then "c".
+/// Whether the last prepended character is read first, and those of the iterator after all of them: "a", "b", then "c".
 fn are_read_from_the_last(alloc: Global) -> bool {
     let Some(tables) = tables(alloc) else {
         return false;
@@ -136,7 +136,7 @@ fn are_read_from_the_last(alloc: Global) -> bool {
         )
 }
 
-/// Whether a prepended character is read as one text with those behind it: "a" taken and put back before "c".
+/// Whether a prepended character is read as one text with those after it: "a" taken and put back before "c".
 fn is_read_with_the_next(alloc: Global) -> bool {
     let Some(tables) = tables(alloc) else {
         return false;

@@ -5,7 +5,7 @@ use icu_collator_core::checked::CheckedTables;
 use samples_icu_collator::compiled::checked_tables;
 use std::alloc::Global;
 
-/// Records of four letters; the third stands behind the first as its suffix too, and the fourth behind the second as what
+/// Records of four letters; the third stands after the first as its suffix too, and the fourth after the second as what
 /// has a prefix. U+0401 is beyond the characters that are noted.
 const RECORDS: &str = "w 0061 ; [2A100000.0500.0.0500.0]
 w 0062 ; [2A200000.0500.0.0500.0]

@@ -132,7 +132,7 @@ fn ok_read_stretches(rt: HostRuntime) {
     assert!(rt; !has_stretches(alloc, "bcaaa", &[0x2a40_0000_0500_0500]));
 }
 
-/// Whether a text is read on in three steps: these elements stand behind the first, these behind the second, and at its end.
+/// Whether a text is read on in three steps: these elements stand after the first, these after the second, and at its end.
 fn is_read_on(alloc: Global, text: &str, first: &[u64], whole: &[u64]) -> bool {
     let Some(checked) = checked_tables(alloc, RECORDS, TrieType::Small) else {
         return false;

@@ -144,7 +144,7 @@ fn elements(rt: HostRuntime) {
 }
 
 /// Contexts: "ab" with the weights of "l"; the same with a flag less, or more; with a lone half; with a weight that is none;
-/// units cut short; a letter behind a mark; no room.
+/// units cut short; a letter after a mark; no room.
 const CONTEXTS: [(u32, &[u16], Option<TableFault>); 8] = [
     (
         0x8c9,
@@ -201,10 +201,10 @@ fn contexts(rt: HostRuntime) {
     assert!(rt; are_contexts_judged(rt.alloc()));
 }
 
-/// A branch of five letters, "b" to "f", which all lead to the node behind it.
+/// A branch of five letters, "b" to "f", which all lead to the node after it.
 const LEVEL: [u16; 10] = [4, 0x62, 7, 0x63, 5, 0x64, 3, 0x65, 1, 0x66];
 
-/// So many branches one behind another, and the value behind them: a value that is no word; one that names what is in no
+/// So many branches one after another, and the value after them: a value that is no word; one that names what is in no
 /// list; keys of fourteen letters, of which there are 5 ^ 14; keys of seven.
 const LEVELS: [(usize, &[u16], Option<TableFault>); 4] = [
     (14, &[0x80c3], BAD_WORD),
@@ -213,7 +213,7 @@ const LEVELS: [(usize, &[u16], Option<TableFault>); 4] = [
     (7, &[0xffff, 0x2ac0, 0x505], None),
 ];
 
-/// A context of so many branches, and the value behind them; `None` where memory is refused.
+/// A context of so many branches, and the value after them; `None` where memory is refused.
 fn levels(alloc: Global, count: usize, value: &[u16]) -> Option<Vec<u16>> {
     let mut units = Vec::from_slice(alloc, &[0x2a10, 0x505]).ok()?;
     for _level in 0..count {

@@ -53,7 +53,7 @@ fn metadata_bits(rt: HostRuntime) {
     assert!(rt; has_flags(0x1a0, [false, false, true, false, true, true]));
 }
 
-/// Whether leads are compressible by these words behind the groups, or by none.
+/// Whether leads are compressible by these words after the groups, or by none.
 fn are_compressible(alloc: Global, words: &[u16], leads: &[(u8, bool)]) -> bool {
     let Ok(last_primaries) = PackedVec::from_slice(alloc, words) else {
         return false;

@@ -7,13 +7,13 @@ use std::alloc::{AllocError, Global};
 /// The fault that the context of "a" breaks a rule.
 const BAD_CONTEXT: Option<TableFault> = Some(TableFault::Context('a'));
 
-/// A branch of five upper halves, which all lead to the node behind it.
+/// A branch of five upper halves, which all lead to the node after it.
 const UPPERS: [u16; 10] = [4, 0xd840, 7, 0xd841, 5, 0xd842, 3, 0xd843, 1, 0xd844];
 
 /// The same of lower halves.
 const LOWERS: [u16; 10] = [4, 0xdc00, 7, 0xdc01, 5, 0xdc02, 3, 0xdc03, 1, 0xdc04];
 
-/// So many branches of halves one behind another, in turn upper and lower ones, and the value behind them: texts of seven
+/// So many branches of halves one after another, in turn upper and lower ones, and the value after them: texts of seven
 /// characters, of which there are 25 ^ 7; the same with an element that is none; with the word of nothing; an upper half
 /// at the end; texts of eight characters.
 const HALVES: [(usize, &[u16], Option<TableFault>); 5] = [
@@ -24,7 +24,7 @@ const HALVES: [(usize, &[u16], Option<TableFault>); 5] = [
     (16, &[0xffff, 0x2ac0, 0x505], BAD_CONTEXT),
 ];
 
-/// A context of so many branches of halves, and the value behind them. Fails only when out of memory.
+/// A context of so many branches of halves, and the value after them. Fails only if memory is refused.
 fn halves(alloc: Global, count: usize, value: &[u16]) -> Result<Vec<u16>, AllocError> {
     let mut units = Vec::from_slice(alloc, &[0x2a10, 0x505])?;
     for level in 0..count {
@@ -91,14 +91,14 @@ fn flags_of_shared_halves(rt: HostRuntime) {
     assert!(rt; are_halves_judged(rt.alloc(), 0xac9, 14, &value, BAD_CONTEXT));
 }
 
-/// A branch of three marks, which all lead to the node behind it.
+/// A branch of three marks, which all lead to the node after it.
 const MARKS: [u16; 6] = [2, 0x301, 3, 0x302, 1, 0x323];
 
-/// The same behind the value of a text.
+/// The same after the value of a text.
 const MARKS_BEHIND: [u16; 8] = [0x7fc2, 0x2ac0, 0x505, 0x301, 3, 0x302, 1, 0x323];
 
-/// A context of seven branches of marks, each behind a value but for the first and the one at this place. Fails only when
-/// out of memory.
+/// A context of seven branches of marks, each after a value but for the first and the one at this index. Fails only if
+/// memory is refused.
 fn marks(alloc: Global, without: usize) -> Result<Vec<u16>, AllocError> {
     let mut units = Vec::from_slice(alloc, &[0x2a10, 0x505])?;
     for level in 0..7usize {

@@ -59,7 +59,7 @@ fn special_words_have_tags(rt: HostRuntime) {
 }
 
 #[test]
-fn special_words_name_places(rt: HostRuntime) {
+fn special_words_name_indices(rt: HostRuntime) {
     let expansion = CollationElement32::new(0x0001_a3c5);
     assert!(rt; expansion.len() == 3 && expansion.index() == 13);
     let digit = CollationElement32::new(0x0000_49ca);

@@ -32,8 +32,8 @@ fn small_index(alloc: Global) -> Result<PackedVec<'static, u16>, AllocError> {
 /// Its cells.
 fn small_cells(alloc: Global) -> Result<PackedVec<'static, u8>, AllocError> {
     let mut cells = Vec::new(alloc);
-    for place in 0..194u8 {
-        cells.push(match place {
+    for index in 0..194u8 {
+        cells.push(match index {
             0..64 => 5,
             65..68 => 6,
             193 => 9,
@@ -130,8 +130,8 @@ fn wide_index(alloc: Global) -> Result<PackedVec<'static, u16>, AllocError> {
 /// Cells that are 0, but for one.
 fn wide_cells(alloc: Global) -> Result<PackedVec<'static, u8>, AllocError> {
     let mut cells = Vec::new(alloc);
-    for place in 0..0x1_0010u32 {
-        cells.push(if place == 0x1_0005 { 7u8 } else { 0 })?;
+    for index in 0..0x1_0010u32 {
+        cells.push(if index == 0x1_0005 { 7u8 } else { 0 })?;
     }
     PackedVec::from_slice(alloc, &cells)
 }

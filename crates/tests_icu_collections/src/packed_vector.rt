@@ -21,8 +21,8 @@ fn has_items<T: PackedItem>(items: &PackedVec<'_, T>, expected: &[T]) -> bool {
     if items.len() != expected.len() || items.get(expected.len()).is_some() {
         return false;
     }
-    for (place, item) in expected.iter().enumerate() {
-        if items.get(place) != Some(*item) {
+    for (index, item) in expected.iter().enumerate() {
+        if items.get(index) != Some(*item) {
             return false;
         }
     }

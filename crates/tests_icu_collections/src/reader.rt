@@ -1,4 +1,4 @@
-//! Reading of unit tries: the keys and values of units, refusals and their places, and sweeps over all short
+//! Reading of unit tries: the keys and values of units, refusals and their indices, and sweeps over all short
 //! lists of units, read and followed.
 ghost use Rattle.std.specs.Prelude.{leb, length};
 
@@ -18,10 +18,10 @@ fn read(
     read_units(alloc, &packed, limit)
 }
 
-/// Whether reading these units stops at this place.
-fn stops_at(alloc: Global, units: &[u16], limit: usize, place: usize) -> bool {
+/// Whether reading these units stops at this index.
+fn stops_at(alloc: Global, units: &[u16], limit: usize, index: usize) -> bool {
     match read(alloc, units, limit) {
-        Err(error) => error == ReadUnitsError::BadUnits(place),
+        Err(error) => error == ReadUnitsError::BadUnits(index),
         Ok(_) => false,
     }
 }
@@ -102,7 +102,7 @@ fn a_branch_in_halves(rt: HostRuntime) {
     assert!(rt; lists(rt.alloc(), &units, 1, &pairs));
 }
 
-/// Units, a limit, a place, and whether reading stops there.
+/// Units, a limit, an index, and whether reading stops there.
 const STOPS: &[(&[u16], usize, usize, bool)] = &[
     // an end inside
     (&[0x30, 0x61], 9, 2, true),
@@ -142,8 +142,8 @@ const STOPS: &[(&[u16], usize, usize, bool)] = &[
 
 /// The number of the first row of which it is otherwise.
 fn first_wrong_stop(alloc: Global) -> Option<usize> {
-    for (number, (units, limit, place, stops)) in STOPS.iter().enumerate() {
-        if stops_at(alloc, units, *limit, *place) != *stops {
+    for (number, (units, limit, index, stops)) in STOPS.iter().enumerate() {
+        if stops_at(alloc, units, *limit, *index) != *stops {
             return Some(number);
         }
     }
@@ -252,7 +252,7 @@ fn agrees(alloc: Global, units: &[u16]) -> bool {
     match read(alloc, units, 64) {
         Ok(list) => list_agrees(alloc, units, &list),
         Err(ReadUnitsError::Memory) => false,
-        Err(ReadUnitsError::BadUnits(place)) => place <= units.len(),
+        Err(ReadUnitsError::BadUnits(index)) => index <= units.len(),
     }
 }
 

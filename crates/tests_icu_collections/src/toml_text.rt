@@ -191,7 +191,7 @@ fn are_read_alike(alloc: Global, text: &str, other: &str) -> bool {
     }
 }
 
-/// Whether a text is read as it is with keys before and behind it that say nothing of the trie.
+/// Whether a text is read as it is with keys before and after it that say nothing of the trie.
 fn is_read_among_others(alloc: Global, text: &str) -> bool {
     match format!(in alloc; "comment = \"a trie\"\n{text}[other]\nindex = 1\n") {
         Ok(more) => are_read_alike(alloc, text, more.as_str()),

@@ -7,7 +7,7 @@ pub type Row<'r, U> = (&'r [U], &'r [U], &'r [U]);
 
 /// Bytes, damaged in each way and not at all.
 pub static BYTES: [Row<'static, u8>; 42] = [
-    // a byte that may only stand behind others: before a mark, at the end, and between marks
+    // a byte that may only stand after others: before a mark, at the end, and between marks
     (
         b"\x80\xcc\xa3\xc3\xa1",
         b"\xef\xbf\xbd\xcc\xa3a\xcc\x81",

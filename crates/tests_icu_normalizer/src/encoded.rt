@@ -55,7 +55,7 @@ pub fn are_units(form: Result<CowSlice<'_, u16>, AllocError>, want: &[u16]) -> b
     }
 }
 
-/// Whether this stands behind a prefix of a text.
+/// Whether this stands after a prefix of a text.
 fn is_behind<U: PartialEq>(text: &[U], prefix: &[U], rest: &[U]) -> bool {
     match text.strip_prefix(prefix) {
         Some(behind) => behind == rest,

@@ -27,7 +27,7 @@ const MAPPINGS: [(char, char, char); 7] = [
     ('\u{1109a}', '\u{11099}', '\u{110ba}'),
 ];
 
-/// A character, and a compatibility mapping of it: its first character, and those behind it.
+/// A character, and a compatibility mapping of it: its first character, and those after it.
 type Compatibility = (char, char, &'static [char]);
 
 /// Compatibility mappings to a space, to one and a mark, to one character, to two, to three, and to eight, and of a

@@ -6,7 +6,7 @@ use crate::given::gives_given;
 use icu_normalizer::sinks::UnitSink;
 use std::alloc::Global;
 
-/// What a text begins with, what is repeated behind that, and what it ends with.
+/// What a text begins with, what is repeated after that, and what it ends with.
 pub type Parts = (&'static str, &'static str, &'static str);
 
 /// A text, its NFD and its NFC.

@@ -176,9 +176,9 @@ fn words_with_a_bit_inverted(rt: HostRuntime) {
 }
 
 /// Whether tables are refused where this bit of this number of the mappings is inverted.
-fn is_step_refused(alloc: Global, place: usize, bit: u32) -> bool {
+fn is_step_refused(alloc: Global, index: usize, bit: u32) -> bool {
     let mut steps = STEPS;
-    if let Some(step) = steps.get_mut(place) {
+    if let Some(step) = steps.get_mut(index) {
         *step ^= 1u32.wrapping_shl(bit);
     }
     are_accepted(alloc, &[], &steps, &PAIRS) == Some(false)
@@ -186,9 +186,9 @@ fn is_step_refused(alloc: Global, place: usize, bit: u32) -> bool {
 
 /// Whether they are for each number and bit.
 fn each_step_counts(alloc: Global) -> bool {
-    for place in 0..6 {
+    for index in 0..6 {
         for bit in 0..32u32 {
-            if !is_step_refused(alloc, place, bit) {
+            if !is_step_refused(alloc, index, bit) {
                 return false;
             }
         }
@@ -202,9 +202,9 @@ fn mappings_with_a_bit_inverted(rt: HostRuntime) {
 }
 
 /// Whether tables are refused where this bit of this pair is inverted.
-fn is_pair_refused(alloc: Global, place: usize, bit: u32) -> bool {
+fn is_pair_refused(alloc: Global, index: usize, bit: u32) -> bool {
     let mut pairs = PAIRS;
-    if let Some(pair) = pairs.get_mut(place) {
+    if let Some(pair) = pairs.get_mut(index) {
         *pair ^= 1u64.wrapping_shl(bit);
     }
     are_accepted(alloc, &[], &STEPS, &pairs) == Some(false)
@@ -212,9 +212,9 @@ fn is_pair_refused(alloc: Global, place: usize, bit: u32) -> bool {
 
 /// Whether they are for each pair and bit.
 fn each_pair_counts(alloc: Global) -> bool {
-    for place in 0..2 {
+    for index in 0..2 {
         for bit in 0..64u32 {
-            if !is_pair_refused(alloc, place, bit) {
+            if !is_pair_refused(alloc, index, bit) {
                 return false;
             }
         }

@@ -5,7 +5,7 @@ use icu_normalizer_core::canonical::{CanonicalData, CanonicalDataError, Canonica
 use samples_icu_normalizer::tables::{PAIRS, STEPS, tables};
 use std::alloc::{AllocError, Global};
 
-/// The first character of a chain, its middle, and what is behind its last.
+/// The first character of a chain, its middle, and what is after its last.
 const FIRST: u32 = 0x2_0000;
 
 const MIDDLE: u32 = 0x2_c000;
@@ -38,7 +38,7 @@ impl Chain {
         }
     }
 
-    /// The mappings of the worked rows, and those of the chain behind them.
+    /// The mappings of the worked rows, and those of the chain after them.
     fn steps(self, alloc: Global) -> Result<Vec<u32>, AllocError> {
         let mut steps = STEPS.to_vec(alloc)?;
         for c in FIRST..END {

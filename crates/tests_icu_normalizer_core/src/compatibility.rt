@@ -100,7 +100,7 @@ const ROWS: [Row; 21] = [
         Some(CanonicalFault::BadValue('\u{3b1}')),
     ),
     (&[(0x3b1, 1)], Some(CanonicalFault::BadValue('\u{3b1}'))),
-    // a place outside, nine characters, an item that is mapped, one that is no character, and a mark first
+    // an index outside, nine characters, an item that is mapped, one that is no character, and a mark first
     (
         &[(0xfb01, 0x10_0000)],
         Some(CanonicalFault::BadList('\u{fb01}')),
@@ -185,7 +185,7 @@ fn low_cells(alloc: Global) -> Result<PackedVec<'static, u32>, AllocError> {
     PackedVec::from_slice(alloc, &cells)
 }
 
-/// Their blocks, one behind another.
+/// Their blocks, one after another.
 fn low_index(alloc: Global) -> Result<PackedVec<'static, u16>, AllocError> {
     let mut index = Vec::new(alloc);
     for block in 0..64u16 {

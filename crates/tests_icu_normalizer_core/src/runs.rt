@@ -37,7 +37,7 @@ fn gives(run: &mut Run<'_>, expected: &[char]) -> bool {
     run.pop().is_none()
 }
 
-/// Whether a run gives the full lists before the last starter, and keeps the marks behind it.
+/// Whether a run gives the full lists before the last starter, and keeps the marks after it.
 fn keeps_marks(alloc: Global, canonical: CanonicalBorrowed<'_>) -> bool {
     match run_of(alloc, canonical, &['\u{e1}', '\u{323}', 'b', '\u{301}']) {
         Ok(mut run) => { gives(&mut run, &['a', '\u{323}', '\u{301}', 'b']) && !run.is_empty() }

@@ -90,8 +90,8 @@ pub const PARTS: [Part; 24] = [
 pub struct Change {
     /// The list.
     pub part: Part,
-    /// The place of the item.
-    pub place: usize,
+    /// The index of the item.
+    pub index: usize,
     /// The bit.
     pub bit: usize,
 }
@@ -194,36 +194,36 @@ impl Lists {
     }
 
     /// What an item has in common with those that are like it.
-    fn form(&self, part: Part, place: usize) -> Option<&[u8]> {
-        let start = place.wrapping_mul(part.width());
+    fn form(&self, part: Part, index: usize) -> Option<&[u8]> {
+        let start = index.wrapping_mul(part.width());
         self.bytes(part)
             .get(start..start.wrapping_add(part.compared()))
     }
 
     /// Whether an item is like the one before it.
-    fn is_like_previous(&self, part: Part, place: usize) -> bool {
-        let Some(previous) = place.checked_sub(1) else {
+    fn is_like_previous(&self, part: Part, index: usize) -> bool {
+        let Some(previous) = index.checked_sub(1) else {
             return false;
         };
-        match (self.form(part, previous), self.form(part, place)) {
+        match (self.form(part, previous), self.form(part, index)) {
             (Some(previous), Some(form)) => previous == form,
             _ => false,
         }
     }
 
     /// The bits of an item that are to be changed: all, or one in turn if it is like the item before it.
-    pub fn bits_of(&self, part: Part, place: usize, is_whole: bool) -> Range<usize> {
+    pub fn bits_of(&self, part: Part, index: usize, is_whole: bool) -> Range<usize> {
         let bits = part.width().wrapping_mul(8);
-        if is_whole || !self.is_like_previous(part, place) {
+        if is_whole || !self.is_like_previous(part, index) {
             return 0..bits;
         }
-        let bit = place.checked_rem(bits).unwrap_or(0);
+        let bit = index.checked_rem(bits).unwrap_or(0);
         bit..bit.wrapping_add(1)
     }
 
     /// Changes a bit.
     pub fn flip(&mut self, change: Change) {
-        let start = change.place.wrapping_mul(change.part.width());
+        let start = change.index.wrapping_mul(change.part.width());
         if let Some(list) = self.lists.get_mut(change.part as usize) {
             if let Some(byte) = list.get_mut(start.wrapping_add(change.bit / 8)) {
                 *byte ^= 1 << (change.bit % 8);

@@ -29,7 +29,7 @@ fn mapped(alloc: Global, canonical: CanonicalBorrowed<'_>, list: &[char]) -> Opt
     Some(mapped)
 }
 
-/// Puts a character behind the others; a mark before the marks of higher classes that are last.
+/// Puts a character after the others; a mark before the marks of higher classes that are last.
 fn put_in_order(canonical: CanonicalBorrowed<'_>, list: &mut Vec<char>, c: char) -> Option<()> {
     let class = canonical.class(c);
     let count = list

@@ -85,7 +85,7 @@ fn push_items<T: PackedItem>(
     Some(())
 }
 
-/// What stands behind some words on the line of a text that begins with them.
+/// What stands after some words on the line of a text that begins with them.
 fn behind<'t>(text: &'t str, words: &str) -> Option<&'t str> {
     for line in text.lines() {
         if let Some(rest) = line.strip_prefix(words) {
@@ -180,9 +180,9 @@ fn push_tables(alloc: Global, lists: &mut Lists, tables: &CollationTables<'_>) -
 
 /// Appends full lists, the first of them to `scalars16`.
 fn push_scalars(lists: &mut Lists, scalars: &PackedVec<'_, char>) -> Option<()> {
-    for place in 0..scalars.len() {
-        let c = scalars.get(place)?;
-        if place < FIRST_LIST {
+    for index in 0..scalars.len() {
+        let c = scalars.get(index)?;
+        if index < FIRST_LIST {
             lists.push(Part::Scalars16, u16::try_from(c as u32).ok()?)?;
         } else {
             lists.push(Part::Scalars24, c)?;

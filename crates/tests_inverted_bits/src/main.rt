@@ -60,15 +60,15 @@ fn change_item(
     rt: &HostRuntime,
     lists: &mut Lists,
     part: Part,
-    place: usize,
+    index: usize,
     is_whole: bool,
     counts: &mut Counts,
 ) -> io::Result<()> {
-    for bit in lists.bits_of(part, place, is_whole) {
-        let answer = changed_answer(rt.alloc(), lists, Change { part, place, bit });
+    for bit in lists.bits_of(part, index, is_whole) {
+        let answer = changed_answer(rt.alloc(), lists, Change { part, index, bit });
         counts.count(answer);
         if matches!(answer, Answer::Misread) {
-            println!(rt; "misread: {} {place} bit {bit}", part.name())?;
+            println!(rt; "misread: {} {index} bit {bit}", part.name())?;
         }
     }
     Ok(())
@@ -90,8 +90,8 @@ fn print_counts(rt: &HostRuntime, part: Part, counts: Counts) -> io::Result<()> 
 /// Changes the items of a list, each in turn.
 fn change_list(rt: &HostRuntime, lists: &mut Lists, part: Part, is_whole: bool) -> io::Result<()> {
     let mut counts = Counts::default();
-    for place in 0..lists.count(part) {
-        change_item(rt, lists, part, place, is_whole, &mut counts)?;
+    for index in 0..lists.count(part) {
+        change_item(rt, lists, part, index, is_whole, &mut counts)?;
     }
     print_counts(rt, part, counts)
 }

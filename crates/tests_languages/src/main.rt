@@ -25,8 +25,8 @@ fn main(rt: HostRuntime) -> anyhow::Result<()> {
     let root = fs::read(&rt, "root.records")?;
     let script = io::read_to_string(alloc, rt.reader())?;
     let mut lines = script.as_bytes().lines();
-    for place in 0..25 {
-        if place > 0 {
+    for index in 0..25 {
+        if index > 0 {
             println!(&rt; "")?;
         }
         let tag = lines.next().context("a language lacks")?;

@@ -1,13 +1,13 @@
 //! The bytes of a file that a script has in lines.
 
-/// Puts a line of a file behind its bytes; `None` where memory is refused.
+/// Puts a line of a file after its bytes; `None` where memory is refused.
 fn put_line(file: &mut Vec<u8>, line: &str) -> Option<()> {
     file.extend_from_slice(line.as_bytes()).ok()?;
     file.push(b'\n').ok()
 }
 
-/// Puts what a line of a script says of a file behind the file's bytes: a line without LF behind `-` and a TAB, else the line
-/// behind the TAB, as often as the number before it says, or once. `None` where it is no such line, or memory is refused.
+/// Puts what a line of a script says of a file after the file's bytes: a line without LF after `-` and a TAB, else the line
+/// after the TAB, as often as the number before it says, or once. `None` where it is no such line, or memory is refused.
 pub fn put_lines(file: &mut Vec<u8>, said: &str) -> Option<()> {
     let (count, line) = said.split_once('\t')?;
     if count == "-" {
@@ -24,7 +24,7 @@ pub fn put_lines(file: &mut Vec<u8>, said: &str) -> Option<()> {
     Some(())
 }
 
-/// Puts the lines that a script has of a file behind the file's bytes; `None` where one isn't a line of a file, or memory is
+/// Puts the lines that a script has of a file after the file's bytes; `None` where one isn't a line of a file, or memory is
 /// refused.
 pub fn put_file(file: &mut Vec<u8>, lines: &str) -> Option<()> {
     for said in lines.split('\n') {

@@ -65,7 +65,7 @@ pub const NO_RECORDS: &[u8] = b"w 61 ;\n";
 /// A text of one letter.
 pub const SHORT: &str = "a";
 
-/// A text whose marks don't stand in order, some behind a letter, some in one.
+/// A text whose marks don't stand in order, some after a letter, some in one.
 pub const LONG: &str =
     "ch1\u{e1}\u{302}\u{323}\u{302}\u{323}\u{302}\u{323}\u{302}\u{323}\u{302}\u{323}\
     \u{302}\u{323}\u{302}\u{323}\u{302}\u{323}\u{302}\u{323}\u{302}\u{323}\u{302}\u{323}\u{302}\u{323}\
@@ -81,7 +81,7 @@ pub const OTHER: &str =
 pub const MARKED: &str =
     "a\u{302}\u{323}\u{302}\u{323}\u{302}\u{323}\u{302}\u{323}\u{302}\u{323}\u{302}\u{323}";
 
-/// The marks of `LONG` in units, behind one that is damaged.
+/// The marks of `LONG` in units, after one that is damaged.
 pub const UNITS: [u16; 36] = [
     0xd800, 0x61, 0x302, 0x323, 0x302, 0x323, 0x302, 0x323, 0x302, 0x323, 0x302, 0x323, 0x302,
     0x323, 0x302, 0x323, 0x302, 0x323, 0x302, 0x323, 0x302, 0x323, 0x302, 0x323, 0x302, 0x323,

@@ -123,7 +123,7 @@ fn tell_answers<F: Form>(rt: &HostRuntime, form: &F) {
     }
 }
 
-/// Prints what a sink of text holds behind two forms.
+/// Prints what a sink of text holds after two forms.
 fn tell_text_sink<F: Form>(rt: &HostRuntime, form: &F) {
     for _ in 0..2 {
         let mut sink = String::new(rt.alloc());
@@ -135,7 +135,7 @@ fn tell_text_sink<F: Form>(rt: &HostRuntime, form: &F) {
     }
 }
 
-/// Prints what a sink of units holds behind two forms.
+/// Prints what a sink of units holds after two forms.
 fn tell_unit_sink<F: Form>(rt: &HostRuntime, form: &F) {
     for _ in 0..2 {
         let mut sink = Vec::new(rt.alloc());

@@ -7,7 +7,7 @@ use std::alloc::Global;
 use std::collections::VecDeque;
 use std::fmt::Debug;
 
-/// Writes three keys to a sink, one behind the other: of a text, of bytes and of units.
+/// Writes three keys to a sink, one after the other: of a text, of bytes and of units.
 fn write_keys<S: CollationKeySink>(
     alloc: Global,
     collator: &CollatorBorrowed<'_>,
@@ -69,7 +69,7 @@ fn tell_small_list(rt: &HostRuntime, collator: &CollatorBorrowed<'_>) {
     }
 }
 
-/// Prints a key in a slice, whose zeros behind it are left out, and tells whether memory was granted.
+/// Prints a key in a slice, whose zeros after it are left out, and tells whether memory was granted.
 fn is_slice_told(
     rt: &HostRuntime,
     collator: &CollatorBorrowed<'_>,

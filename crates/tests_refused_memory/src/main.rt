@@ -1,6 +1,6 @@
 //! Makes each call that takes memory, and prints what it answered and what it left.
 //!
-//! A line is `NAME | WHAT IS LEFT | ANSWER`: left is what a sink holds behind the call, what an iterator gave, or the names of
+//! A line is `NAME | WHAT IS LEFT | ANSWER`: left is what a sink holds after the call, what an iterator gave, or the names of
 //! the index. A call that is refused memory is made again, over a new sink or from a new iterator. So a run that is refused
 //! memory once prints one line more than a run with ample memory (`tools/refuse_memory.py`).
 #![tactic(auto)]

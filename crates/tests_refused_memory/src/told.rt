@@ -33,13 +33,13 @@ pub fn made<T, E: Debug + Drop, F: Fn() -> Result<T, E> + Drop>(
     }
 }
 
-/// Prints an answer behind which nothing is left, and tells whether it is no error.
+/// Prints an answer after which nothing is left, and tells whether it is no error.
 pub fn is_told<T: Debug, E: Debug>(rt: &HostRuntime, name: &str, answer: &Result<T, E>) -> bool {
     let _ = println!(rt; "{name} | - | {answer:?}");
     answer.is_ok()
 }
 
-/// Prints the characters that an iterator gives, and its refusal, behind which it has to have ended; and tells whether it
+/// Prints the characters that an iterator gives, and its refusal, after which it has to have ended; and tells whether it
 /// wasn't refused.
 pub fn gives_all<I: Iterator<Item = Result<char, AllocError>> + Drop>(
     rt: &HostRuntime,

@@ -2,8 +2,8 @@
 //!
 //! The paragraphs of a script stand apart by an empty line. Each begins with a line that says what it is:
 //!
-//! - `records`: the lines behind it are a records file, which counts from there on.
-//! - `more`: so are these, behind those of the last `records`.
+//! - `records`: the lines after it are a records file, which counts from there on.
+//! - `more`: so are these, after those of the last `records`.
 //! - `run WORDS`: the program's words, of which the first is FILE, and its commands, a line each. FILE is the records that
 //!   count, whatever it is called. `run` alone gives no word.
 //! - `#` and anything: a comment.

@@ -11,7 +11,7 @@ use std::alloc::Global;
 struct Records<'s> {
     /// The lines of a file.
     file: &'s str,
-    /// The lines behind those.
+    /// The lines after those.
     more: &'s str,
 }
 
@@ -22,7 +22,7 @@ impl<'s> Records<'s> {
         format!(in alloc; "{file}\n{more}").ok()
     }
 
-    /// The records that count behind a paragraph.
+    /// The records that count after a paragraph.
     fn behind(self, kind: &str, lines: &'s str) -> Records<'s> {
         match kind {
             "records" => Records {
@@ -38,7 +38,7 @@ impl<'s> Records<'s> {
     }
 }
 
-/// The parts of a text before and behind the first separator; all of it, and nothing, where there is none.
+/// The parts of a text before and after the first separator; all of it, and nothing, where there is none.
 fn halves(text: &str, separator: char) -> (&str, &str) {
     match text.split_once(separator) {
         Some(halves) => halves,

@@ -9,17 +9,17 @@ use Rattle.collate_lines.specs.declared.record.Record.{Record as Line}
 use Rattle.collate_lines.specs.Record.{Record, nothing, said}
 use Rattle.collate_rules.specs.Rules.{is_range}
 
--- the lines from one before a place on
+-- the lines from one before an index on
 pub from_line : (lines : List Line) (i : ℕ) (x : Line) → i < length lines → x ≡ get_or lines (length lines - 1 - i) x
     → drop (length lines - (i + 1)) (map said lines) ≡ said x ∷ drop (length lines - i) (map said lines)
 from_line lines i x h e =
     ap (λ (n : ℕ). drop n (map said lines)) here
-    ∙ drop-cons (map said lines) place nothing (omega (arith, length-map lines said))
-    ∙ ap (λ (s : Record). s ∷ drop (suc place) (map said lines)) (get_or-map said lines place x nothing (omega arith) ∙ ap said (sym e))
+    ∙ drop-cons (map said lines) index nothing (omega (arith, length-map lines said))
+    ∙ ap (λ (s : Record). s ∷ drop (suc index) (map said lines)) (get_or-map said lines index x nothing (omega arith) ∙ ap said (sym e))
     ∙ ap (λ (n : ℕ). said x ∷ drop n (map said lines)) next
   where
-    place : ℕ
-    place = length lines - 1 - i
+    index : ℕ
+    index = length lines - 1 - i
 
     here : length lines - (i + 1) ≡ length lines - 1 - i
     here = omega arith
@@ -38,7 +38,7 @@ ranges_from lines i x h e =
 pub ranges_few : (lines : List Record) (n : ℕ) → count_by is_range (drop n lines) ≤ count_by is_range lines
 ranges_few lines n = omega (arith, sum_by-take-drop (λ s. cond (is_range s) 1 0) lines n)
 
--- from behind the last line on there is none
+-- from the end the last line on there is none
 pub lines_none : (lines : List Line) → drop (length lines - 0) (map said lines) ≡ []
 lines_none lines = drop_of_length-le (map said lines) (omega (arith, length-map lines said))
 

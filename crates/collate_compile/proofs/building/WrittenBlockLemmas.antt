@@ -81,12 +81,12 @@ some_more f bs (p ∷ ps) = by (is_among p ps) refl (some_more f bs ps)
 module _ (width start : ℕ) (block_of : ℕ → ℕ) (is_block : (j k : ℕ) → k < width → block_of (start + (j * width + k)) ≡ j)
     (xs ys cs : List ℕ) (count : length ys ≡ length xs)
     (same : (k : ℕ) → k < length xs → is_among (start + k) cs ≡ false → get_or ys k 0 ≡ get_or xs k 0) where
-  places : List ℕ
-  places = map block_of cs
+  indices : List ℕ
+  indices = map block_of cs
 
-  -- a block in which none of the places is
-  other_block : (j : ℕ) → is_among j places ≡ false → j * width + width ≤ length xs → block width ys j ≡ block width xs j
-  unfolding places
+  -- a block in which none of the indices is
+  other_block : (j : ℕ) → is_among j indices ≡ false → j * width + width ≤ length xs → block width ys j ≡ block width xs j
+  unfolding indices
   other_block j none whole =
       sym (same_block width xs ys j j whole (omega (arith, count, whole))
       (λ k h. sym (same (j * width + k) (omega (arith, whole)) (apart k h))))
@@ -99,18 +99,18 @@ module _ (width start : ℕ) (block_of : ℕ → ℕ) (is_block : (j k : ℕ) �
           ∙ ap (λ (i : ℕ). is_among i (map block_of cs)) (sym (is_block j k h))
           ∙ among_mapped block_of (start + (j * width + k)) cs among))
 
-  among : (q : List ℕ) → Contains (blocks width ys) q → Contains (map (block width ys) places ++ blocks width xs) q
+  among : (q : List ℕ) → Contains (blocks width ys) q → Contains (map (block width ys) indices ++ blocks width xs) q
   among q in_ys =
       let from = among_blocks width ys q in_ys in
-      (is_member-Decides bytes_eq-Decides (map (block width ys) places ++ blocks width xs) q).0
-      (list_any-append (Same q) (map (block width ys) places) (blocks width xs)
-      ∙ by from.0 from.1 from.2 (is_among from.0 places) refl)
+      (is_member-Decides bytes_eq-Decides (map (block width ys) indices ++ blocks width xs) q).0
+      (list_any-append (Same q) (map (block width ys) indices) (blocks width xs)
+      ∙ by from.0 from.1 from.2 (is_among from.0 indices) refl)
     where
-      by : (j : ℕ) → j < length ys / width → block width ys j ≡ q → (t : Bool) → is_among j places ≡ t
-          → (is_member Same (map (block width ys) places) q || is_member Same (blocks width xs) q) ≡ true
+      by : (j : ℕ) → j < length ys / width → block width ys j ≡ q → (t : Bool) → is_among j indices ≡ t
+          → (is_member Same (map (block width ys) indices) q || is_member Same (blocks width xs) q) ≡ true
       by j inside is true e =
-          or_left _ _ (subst (λ (b : List ℕ). is_member Same (map (block width ys) places) b ≡ true) is
-          (member_mapped (block width ys) j places e))
+          or_left _ _ (subst (λ (b : List ℕ). is_member Same (map (block width ys) indices) b ≡ true) is
+          (member_mapped (block width ys) j indices e))
       by j inside is false e =
           let below : j < length xs / width = subst (λ (n : ℕ). j < n / width) count inside in
           or_right _ _ ((is_member-Decides bytes_eq-Decides (blocks width xs) q).1
@@ -119,12 +119,12 @@ module _ (width start : ℕ) (block_of : ℕ → ℕ) (is_block : (j k : ℕ) �
 
   blocks_beside : distinct_count Same (blocks width ys)
       ≤ distinct_count Same (blocks width xs) + different (map block_of cs)
-  unfolding places
+  unfolding indices
   blocks_beside =
       omega (
         arith,
-        count_below (blocks width ys) (map (block width ys) places ++ blocks width xs) among,
-        some_more (block width ys) (blocks width xs) places,
+        count_below (blocks width ys) (map (block width ys) indices ++ blocks width xs) among,
+        some_more (block width ys) (blocks width xs) indices,
       )
 
 -- a map that differs from another only at some code points

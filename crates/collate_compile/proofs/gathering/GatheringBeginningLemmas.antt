@@ -306,7 +306,7 @@ room_all (line ∷ lines) =
       sum_by-cons element_room line lines,
     )
 
--- texts of several characters, and those behind a prefix
+-- texts of several characters, and those after a prefix
 texts_all : (lines : List Record)
     → sum_by (λ line. cond (is_weights line) (cond (is_beside line) 1 0) 0) lines ≤ count_by is_beside lines
 texts_all lines =

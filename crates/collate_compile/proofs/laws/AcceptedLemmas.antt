@@ -15,7 +15,7 @@ use Rattle.icu_collator_core.specs.Acceptance.{IsAccepted}
 use Rattle.icu_collator_core.specs.ContextFaults.{HasContexts}
 use Rattle.icu_collator_core.specs.Defaults.{special_primary}
 use Rattle.icu_collator_core.specs.Pools.{Pools}
-use Rattle.icu_collator_core.specs.TableFaults.{AllPassIn, HasCell, HasPlaces, HasWord}
+use Rattle.icu_collator_core.specs.TableFaults.{AllPassIn, HasCell, HasIndices, HasWord}
 use Rattle.icu_collator_core.specs.TableMeaning.{fallback, pools_of, weights_of, word_at, word_in}
 use Rattle.icu_collator_core.specs.WeightRules.{AreSoundWeights}
 use Rattle.icu_collator_core.specs.WordForms.{IsWord, has_form, is_digit_word, is_fallback, keeps_special, states_primary}
@@ -64,10 +64,10 @@ module _
         (plain_kept c (word_at source c) plain, word_of_layer layer (pools_of source) (word_at source c) says.form)
     has_word (IsCase.by_none none) = unrecorded_is_word layer (pools_of source) c (word_at source c) none
 
-    has_places : IsCase records layer source c → HasPlaces layer source c
-    has_places (IsCase.by_lines saying plain is says) = says.inside
-    has_places (IsCase.by_range bits plain is says) = says.inside
-    has_places (IsCase.by_none none) = unrecorded_is_inside layer (pools_of source) (word_at source c) none
+    has_indices : IsCase records layer source c → HasIndices layer source c
+    has_indices (IsCase.by_lines saying plain is says) = says.inside
+    has_indices (IsCase.by_range bits plain is says) = says.inside
+    has_indices (IsCase.by_none none) = unrecorded_is_inside layer (pools_of source) (word_at source c) none
 
     has_contexts : IsCase records layer source c → HasContexts canonical tables layer source c
     has_contexts (IsCase.by_lines saying plain is says) =
@@ -120,7 +120,7 @@ module _
     characters = record {
       cells = all_cells;
       words = all_pass HasWord has_word;
-      places = all_pass HasPlaces (λ layer source c s. has_places layer source c s);
+      indices = all_pass HasIndices (λ layer source c s. has_indices layer source c s);
       contexts = all_pass (HasContexts canonical tables) has_contexts;
       weights = all_pass (HasWeights tables.special_primaries) has_weights;
     };

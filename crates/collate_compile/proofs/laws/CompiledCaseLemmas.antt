@@ -26,7 +26,7 @@ use Rattle.collate_words.specs.Sayings.{Saying}
 use Rattle.collate_words.specs.Written.{SaysOf}
 use Rattle.collate_compile.specs.Layers.{IsRootOf, IsTailoringOf, IsUnwritten, IsWrittenOf}
 use Rattle.collate_compile.specs.LineSayings.{IsSayingOf, begins_line, begins_tailored_line, is_rooted, is_tailored, offset_bits, offset_of, ranged_saying}
-use Rattle.collate_compile.proofs.laws.CompiledLineLemmas.{place_of}
+use Rattle.collate_compile.proofs.laws.CompiledLineLemmas.{line_index}
 
 -- the cases of a word
 pub data IsCase (lines : List Record) (layer : Layer) (source : CollationData) (c : ℕ) : Type 0 where
@@ -154,8 +154,8 @@ module _ (lines : List Record) (accepted : AreAccepted lines) (c : ℕ) where
       at : (is_rooted lines c ≡ true) ⊎ (is_rooted lines c ≡ false) → IsCase lines Root source c
       at (inl rooted) =
           let begins = (and_parts _ (list_any (begins_line c) lines) (and_parts (not (is_jamo c)) _ rooted).1).1 in
-          let place = place_of (begins_line c) lines begins in
-          written_case Root source (begun_unspecial place.0 place.1 place.2)
+          let index = line_index (begins_line c) lines begins in
+          written_case Root source (begun_unspecial index.0 index.1 index.2)
           (MatchBool-at_true (IsWrittenOf lines source c) (IsUnwritten lines source c) rooted (root.words c s))
       at (inr unrooted) =
           unwritten (offset_of lines c) refl
@@ -167,9 +167,9 @@ module _ (lines : List Record) (accepted : AreAccepted lines) (c : ℕ) where
     where
       at : (is_tailored lines c ≡ true) ⊎ (is_tailored lines c ≡ false) → IsCase lines Tailoring source c
       at (inl tailored) =
-          let place = place_of (begins_tailored_line c) lines (and_parts (not (is_jamo c)) _ tailored).1 in
+          let index = line_index (begins_tailored_line c) lines (and_parts (not (is_jamo c)) _ tailored).1 in
           written_case Tailoring source
-          (begun_unspecial place.0 place.1 (tailored_begins c (record_at lines place.0) place.2))
+          (begun_unspecial index.0 index.1 (tailored_begins c (record_at lines index.0) index.2))
           (MatchBool-at_true (IsWrittenOf lines source c) (word_at source c ≡ fallback) tailored (of_source.words c s))
       at (inr untailored) =
           by_none

@@ -178,7 +178,7 @@ module _
       ∙ recorded_marks_last lines accepted [] (c ∷ text) es recorded)
       (shorter_alike text t ∙ recorded_shorter lines accepted [] c text es recorded))
 
-  -- what stands behind the character is recorded with it
+  -- what stands after the character is recorded with it
   behind_recorded : (text : List ℕ) → Contains (texts_beside saying.suffixes) text
       → (es : List Element) × (recorded_in lines [] (c ∷ text) ≡ Some es)
   behind_recorded text within =

@@ -33,31 +33,31 @@ HasLead None lead = lead < 0x40
 HasLead (Some value) lead = 0x40 ≤ lead
 
 module _ (units : List ℕ) where
-  node_lead : (place : ℕ) (value : Option ℕ) (next : Option State) → IsNode units place value next
-      → (lead : ℕ) × (slice_get units place ≡ Some lead) × HasLead value lead
-  node_lead _ _ _ (IsNode.final place lead number read high told) = (lead, read, omega (arith, high))
-  node_lead _ _ _ (IsNode.valued place lead number next read low high told opens) = (lead, read, high)
-  node_lead _ _ _ (IsNode.bare place lead next read low opens) = (lead, read, low)
+  node_lead : (index : ℕ) (value : Option ℕ) (next : Option State) → IsNode units index value next
+      → (lead : ℕ) × (slice_get units index ≡ Some lead) × HasLead value lead
+  node_lead _ _ _ (IsNode.final index lead number read high told) = (lead, read, omega (arith, high))
+  node_lead _ _ _ (IsNode.valued index lead number next read low high told opens) = (lead, read, high)
+  node_lead _ _ _ (IsNode.bare index lead next read low opens) = (lead, read, low)
 
   -- what a key without units needs
   abbrev IsEmptyAt : Spot → List ℕ → Type 0
-  IsEmptyAt (at_node place) [] = (value : ℕ) × (next : Option State) × IsNode units place (Some value) next
-  IsEmptyAt (at_node place) (u ∷ us) = Unit {0}
+  IsEmptyAt (at_node index) [] = (value : ℕ) × (next : Option State) × IsNode units index (Some value) next
+  IsEmptyAt (at_node index) (u ∷ us) = Unit {0}
   IsEmptyAt (at_state state) [] = ⊥
   IsEmptyAt (at_state state) (u ∷ us) = Unit {0}
 
-  behind : (place : ℕ) (state : State) (key : List ℕ) → IsEmptyAt (at_state state) key → IsEmptyAt (at_node place) key
-  behind place state [] none = absurd none
-  behind place state (u ∷ us) some = tt
+  behind : (index : ℕ) (state : State) (key : List ℕ) → IsEmptyAt (at_state state) key → IsEmptyAt (at_node index) key
+  behind index state [] none = absurd none
+  behind index state (u ∷ us) some = tt
 
   empty_key : (spot : Spot) (key : List ℕ) (number : ℤ) → MapsKey units spot key number → IsEmptyAt spot key
-  empty_key _ _ _ (MapsKey.ends place value next node) = (value, next, node)
-  empty_key _ _ _ (MapsKey.goes_on place value next key number node rest) =
-      behind place next key (empty_key (at_state next) key number rest)
+  empty_key _ _ _ (MapsKey.ends index value next node) = (value, next, node)
+  empty_key _ _ _ (MapsKey.goes_on index value next key number node rest) =
+      behind index next key (empty_key (at_state next) key number rest)
   empty_key _ _ _ (MapsKey.run_on run unit key number read more rest) = tt
   empty_key _ _ _ (MapsKey.run_out run unit key number read few rest) = tt
   empty_key _ _ _ (MapsKey.branch_value branch unit value leads) = tt
-  empty_key _ _ _ (MapsKey.branch_node branch unit place key number leads rest) = tt
+  empty_key _ _ _ (MapsKey.branch_node branch unit index key number leads rest) = tt
 
   pub no_empty_key : (number : ℤ) → IsUnitTrie units → MapsKey units (at_node 0) [] number → ⊥
   no_empty_key number (IsUnitTrie.no_units none) maps =

@@ -48,9 +48,9 @@ elements_line layer prefix text (setting s) es h = absurd (none-some es h)
 -- a line records a text
 pub record IsLine (lines : List Record) (prefix text : List ℕ) (es : List Element) : Type 0 where
   pub layer : Layer
-  pub place : ℕ
-  pub inside : place < length lines
-  pub says : record_at lines place ≡ weights layer prefix text es
+  pub index : ℕ
+  pub inside : index < length lines
+  pub says : record_at lines index ≡ weights layer prefix text es
 
 found_line : (layer : Layer) (lines : List Record) (prefix text : List ℕ) (es : List Element)
     → first_found (elements_in layer prefix text) lines ≡ Some es → IsLine lines prefix text es
@@ -58,7 +58,7 @@ found_line layer lines prefix text es h =
     let w = found_at (elements_in layer prefix text) lines es h in
     record {
       layer = layer;
-      place = w.0;
+      index = w.0;
       inside = w.1;
       says = elements_line layer prefix text
           (record_at lines w.0) es w.2;
@@ -75,7 +75,7 @@ recorded_line lines prefix text es h = at (first_found (elements_in tailoring pr
     at (Some fs) is k = found_line tailoring lines prefix text es (is ∙ k)
     at None is k = found_line root lines prefix text es k
 
--- what no line passes, the line at a place doesn't
+-- what no line passes, the line at an index doesn't
 pub none_at : (test : Record → Bool) (lines : List Record) (i : ℕ) → (list_any test lines ≡ true → ⊥) → i < length lines
     → test (record_at lines i) ≡ true → ⊥
 none_at test lines i none lt h =
@@ -86,12 +86,12 @@ pub any_at : (test : Record → Bool) (lines : List Record) (i : ℕ) → i < le
 any_at test lines i lt h = list_any_at test lines i nothing lt (ap test (sym (unwrap_or-slice_get lines i nothing)) ∙ h)
 
 -- a line that passes, where one does
-pub place_of : (test : Record → Bool) (lines : List Record) → list_any test lines ≡ true
+pub line_index : (test : Record → Bool) (lines : List Record) → list_any test lines ≡ true
     → (i : ℕ) × (i < length lines) × (test (record_at lines i) ≡ true)
-place_of test [] h = absurd (false≢true h)
-place_of test (line ∷ lines) h =
+line_index test [] h = absurd (false≢true h)
+line_index test (line ∷ lines) h =
     ⊎_elim (λ (here : test line ≡ true). (0, omega arith, here))
-    (λ (there : list_any test lines ≡ true). let w = place_of test lines there in (
+    (λ (there : list_any test lines ≡ true). let w = line_index test lines there in (
       suc w.0,
       (let inside = w.1 in omega (arith, inside)),
       w.2,
@@ -109,5 +109,5 @@ unbegun lines c prefix cs none = at (recorded_in lines prefix (c ∷ cs)) refl
         let line = recorded_line lines prefix (c ∷ cs) es is in
         absurd
         (true≢false
-        (sym (any_at (begins_line c) lines line.place line.inside (ap (begins_line c) line.says ∙ eq-eqb c c refl))
+        (sym (any_at (begins_line c) lines line.index line.inside (ap (begins_line c) line.says ∙ eq-eqb c c refl))
         ∙ none))

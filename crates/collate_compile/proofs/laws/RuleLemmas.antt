@@ -85,9 +85,9 @@ module _ (lines : List Record) (accepted : AreAccepted lines) where
       → AreCharacters prefix text
   recorded_characters prefix text es h =
       let line = recorded_line lines prefix text es h in
-      let said = All-get_or IsSaid lines line.place nothing line.inside accepted.in_grammar in
-      let at : HasCharacters (record_at lines line.place) =
-      subst HasCharacters (sym (unwrap_or-slice_get lines line.place nothing)) (line_has_characters said.0 _ said.1) in
+      let said = All-get_or IsSaid lines line.index nothing line.inside accepted.in_grammar in
+      let at : HasCharacters (record_at lines line.index) =
+      subst HasCharacters (sym (unwrap_or-slice_get lines line.index nothing)) (line_has_characters said.0 _ said.1) in
       subst HasCharacters line.says at
 
   -- a text has at most eight characters
@@ -97,7 +97,7 @@ module _ (lines : List Record) (accepted : AreAccepted lines) where
       let line = recorded_line lines prefix text es h in
       ⊎_elim
       (λ (long : 8 < length text). absurd
-      (accepted.keep_rules Limit line.place line.inside (inr (subst IsLong (sym line.says) (inl long)))))
+      (accepted.keep_rules Limit line.index line.inside (inr (subst IsLong (sym line.says) (inl long)))))
       (λ few. few)
       (cases_lt 8 (length text))
 
@@ -110,7 +110,7 @@ module _ (lines : List Record) (accepted : AreAccepted lines) where
       none_together (λ ls. IsTrue (breaks_marks_last lines ls)) (λ e. false≢true e) lines (accepted.keep_rules V8) in
       marks_stay_last canonical text
       (false_from_ne_true _
-      (λ late. none_at (has_late_starter lines lines) lines line.place none line.inside
+      (λ late. none_at (has_late_starter lines lines) lines line.index none line.inside
       (ap (has_late_starter lines lines) line.says ∙ late)))
 
   -- V9
@@ -120,7 +120,7 @@ module _ (lines : List Record) (accepted : AreAccepted lines) where
   recorded_shorter prefix c suffix es h =
       let line = recorded_line lines prefix (c ∷ suffix) es h in
       true_from_ne_false _
-      (λ lacks. accepted.keep_rules V9 line.place line.inside
+      (λ lacks. accepted.keep_rules V9 line.index line.inside
       (ap (lacks_shorter lines) line.says ∙ ap not lacks))
 
   -- V10
@@ -131,7 +131,7 @@ module _ (lines : List Record) (accepted : AreAccepted lines) where
       let none =
       none_together (λ ls. IsTrue (breaks_prefixes lines ls)) (λ e. false≢true e) lines (accepted.keep_rules V10) in
       true_from_ne_false _
-      (λ bad. none_at (is_badly_prefixed lines lines) lines line.place none line.inside
+      (λ bad. none_at (is_badly_prefixed lines lines) lines line.index none line.inside
       (ap (is_badly_prefixed lines lines) line.says ∙ ap not bad))
 
   pub recorded_prefix : (b : ℕ) (bs text : List ℕ) (es : List Element) → recorded_in lines (b ∷ bs) text ≡ Some es
@@ -175,7 +175,7 @@ module _ (lines : List Record) (accepted : AreAccepted lines) where
   jamo_alone prefix c cs es jamo h =
       let line = recorded_line lines prefix (c ∷ cs) es h in
       let kept : (list_any is_jamo (c ∷ cs) && not (is_alone prefix (c ∷ cs) && (is_replaced lines line.layer prefix (c ∷ cs) || is_one_word es))) ≡ false =
-      false_from_ne_true _ (λ bad. accepted.keep_rules V12 line.place line.inside (ap (is_bad_jamo_record lines) line.says ∙ bad)) in
+      false_from_ne_true _ (λ bad. accepted.keep_rules V12 line.index line.inside (ap (is_bad_jamo_record lines) line.says ∙ bad)) in
       let some : list_any is_jamo (c ∷ cs) ≡ true = or_left (is_jamo c) (list_any is_jamo cs) jamo in
       let rest : (is_alone prefix (c ∷ cs) && (is_replaced lines line.layer prefix (c ∷ cs) || is_one_word es)) ≡ true =
       not-false _

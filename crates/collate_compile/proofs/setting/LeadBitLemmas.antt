@@ -83,41 +83,41 @@ highest_more is_compressible part i bits more lead b highest h e f g = record {
     by (suc k) lt = bit_above k bits more one ∙ highest.bit k (omega arith) ∙ ap is_compressible (next k)
 
 pub highest_all : (is_compressible : ℕ → Bool) (part i bits : ℕ) → AreHighest is_compressible part i bits → 16 ≤ i
-    → (place : ℕ) → place < 16 → has_bit place bits ≡ is_compressible (16 * part + place)
-highest_all is_compressible part i bits highest h place lt =
-    let last : 16 * part + (16 - i + place) ≡ 16 * part + place = omega (arith, highest.few) in
-    highest.bit place (omega (arith, highest.few)) ∙ ap is_compressible last
+    → (index : ℕ) → index < 16 → has_bit index bits ≡ is_compressible (16 * part + index)
+highest_all is_compressible part i bits highest h index lt =
+    let last : 16 * part + (16 - i + index) ≡ 16 * part + index = omega (arith, highest.few) in
+    highest.bit index (omega (arith, highest.few)) ∙ ap is_compressible last
 
--- ## Words of 16 bits behind the groups
+-- ## Words of 16 bits after the groups
 
 pub record AreParts (lines : List Record) (ends values : List ℕ) (parts : ℕ) : Type 0 where
   pub count : length values ≡ 4 + parts
   pub groups : take 4 values ≡ ends
-  pub bits : (part place : ℕ) → part < parts → place < 16
-      → has_bit place (get_or values (4 + part) 0) ≡ is_compressible_in lines (16 * part + place)
+  pub bits : (part index : ℕ) → part < parts → index < 16
+      → has_bit index (get_or values (4 + part) 0) ≡ is_compressible_in lines (16 * part + index)
 
 pub parts_none : (lines : List Record) (groups : List ℕ) → length groups ≡ 4 → AreParts lines groups groups 0
 parts_none lines groups four = record {
   count = four;
   groups = take_all 4 groups (omega arith);
-  bits = λ part place h k. absurd (omega arith);
+  bits = λ part index h k. absurd (omega arith);
 }
 
 pub parts_more : (lines : List Record) (groups values : List ℕ) (parts word : ℕ) → AreParts lines groups values parts
-    → ((place : ℕ) → place < 16 → has_bit place word ≡ is_compressible_in lines (16 * parts + place))
+    → ((index : ℕ) → index < 16 → has_bit index word ≡ is_compressible_in lines (16 * parts + index))
     → AreParts lines groups (values ++ word ∷ []) (parts + 1)
 parts_more lines groups values parts word so_far says = record {
   count = omega (arith, length-append values (word ∷ []), so_far.count);
   groups = take-append-le 4 values (word ∷ []) (omega (arith, so_far.count)) ∙ so_far.groups;
-  bits = λ part place h k. ⊎_elim
+  bits = λ part index h k. ⊎_elim
       (λ (before : part < parts).
       let within : 4 + part < length values = omega (arith, so_far.count) in
-      ap (has_bit place) (get_or-append values (word ∷ []) 0 (4 + part) within) ∙ so_far.bits part place before k)
+      ap (has_bit index) (get_or-append values (word ∷ []) 0 (4 + part) within) ∙ so_far.bits part index before k)
       (λ (here : parts ≤ part).
       let same : part ≡ parts = omega arith in
       let last : 4 + part ≡ length values = omega (arith, so_far.count) in
-      ap (has_bit place) (ap (λ (n : ℕ). get_or (values ++ word ∷ []) n 0) last ∙ get_or-append_seam values word [] 0)
-      ∙ says place k ∙ ap (λ (n : ℕ). is_compressible_in lines (16 * n + place)) (sym same))
+      ap (has_bit index) (ap (λ (n : ℕ). get_or (values ++ word ∷ []) n 0) last ∙ get_or-append_seam values word [] 0)
+      ∙ says index k ∙ ap (λ (n : ℕ). is_compressible_in lines (16 * n + index)) (sym same))
       (cases_lt part parts);
 }
 

@@ -25,7 +25,7 @@ use Rattle.collate_laws.proofs.LawFaultLemmas.{table_fault_refutes}
 use Rattle.collate_index.specs.Catalogue.{preferences_of}
 use Rattle.collate_index.specs.declared.asked.Asked.{Asked}
 
--- accepted tables are refused for want of memory alone
+-- accepted tables are refused only if memory is
 pub refused_for_memory : (canonical : Canonical) (tables : CollationTables) (fault : TableFault) → IsRefusal canonical tables fault → IsAccepted canonical tables → fault ≡ Memory
 refused_for_memory canonical tables fault refused accepted = ⊎_elim (λ memory. memory) (λ first. absurd (table_fault_refutes canonical tables fault first accepted)) refused
 

@@ -10,10 +10,10 @@ use Rattle.std.proofs.lemmas.List.Elements.{All-contains, All-same, All-push}
 use Rattle.std.proofs.lemmas.List.Sorted.{All-permutation}
 use Rattle.collate_rules.specs.Accepted.{AreAccepted}
 use Rattle.collate_lists.specs.Names.{in_order}
-use Rattle.collate_lists.specs.Search.{IsPlaceOf}
+use Rattle.collate_lists.specs.Search.{IsRankOf}
 use Rattle.collate_lists.proofs.NameChangeLemmas.{in_order_alike, in_order_map}
 use Rattle.collate_lists.proofs.NamesLemmas.{in_order_is_permutation, length-in_order}
-use Rattle.collate_lists.proofs.NamePlaceLemmas.{place_alike, place_map}
+use Rattle.collate_lists.proofs.NameRankLemmas.{rank_alike, rank_map}
 use Rattle.collate_name_list.specs.StoredNames.{StoredName, key_order, names_of, sorted, without}
 use Rattle.collate_name_list.specs.declared.errors.AddError.{AddError}
 use Rattle.collate_index.specs.Catalogue.{Catalogue, meaning_in, order_of, sorted_names}
@@ -51,14 +51,14 @@ module _ (m : Meaning) (accepted : AreAccepted m.records) where
     as_many = sym (ap length names_sorted) ∙ length-map (sorted names) (λ (stored : StoredName). stored.name)
 
     -- a place by keys is one by names
-    pub place_by_names : (name key : List ℕ) → IsKeyOf m name key → (past : Bool) (at : ℕ) → at ≤ length (sorted names)
-        → IsPlaceOf (λ (stored : StoredName). slice_cmp nat_cmp stored.key key) past (sorted names) at
-        → IsPlaceOf (λ other. order_by m other name) past (in_order (order_by m) (names_of names)) at
-    place_by_names name key of past at within place =
+    pub rank_by_names : (name key : List ℕ) → IsKeyOf m name key → (past : Bool) (at : ℕ) → at ≤ length (sorted names)
+        → IsRankOf (λ (stored : StoredName). slice_cmp nat_cmp stored.key key) past (sorted names) at
+        → IsRankOf (λ other. order_by m other name) past (in_order (order_by m) (names_of names)) at
+    rank_by_names name key of past at within place =
         let sought : StoredName = record { key = key; name = name } in
-        subst (λ (xs : List (List ℕ)). IsPlaceOf (λ other. order_by m other name) past xs at) names_sorted
-        (place_map (λ (stored : StoredName). stored.name) (λ other. order_by m other name) past (sorted names) at within
-        (place_alike (λ (stored : StoredName). slice_cmp nat_cmp stored.key key) (λ (stored : StoredName). order_by m stored.name name) past (sorted names) at within
+        subst (λ (xs : List (List ℕ)). IsRankOf (λ other. order_by m other name) past xs at) names_sorted
+        (rank_map (λ (stored : StoredName). stored.name) (λ other. order_by m other name) past (sorted names) at within
+        (rank_alike (λ (stored : StoredName). slice_cmp nat_cmp stored.key key) (λ (stored : StoredName). order_by m stored.name name) past (sorted names) at within
         (λ k d h. keyed_order (get_or (sorted names) k d) sought (keyed_sorted k d h) of) place))
 
 -- an index as its callers see it
@@ -70,11 +70,11 @@ module _ (s : Inside) (kept : IsKept s) (now : Catalogue) (is : catalogue_of s �
   length_listed = sym (length-map (sorted s.names) (λ (stored : StoredName). stored.name)) ∙ ap length listed
 
   pub placed : (name key : List ℕ) → IsKeyOf (meaning_in now) name key → (past : Bool) (at : ℕ) → at ≤ length (sorted s.names)
-      → IsPlaceOf (λ (stored : StoredName). slice_cmp nat_cmp stored.key key) past (sorted s.names) at
-      → IsPlaceOf (λ other. order_of now other name) past (sorted_names now) at
+      → IsRankOf (λ (stored : StoredName). slice_cmp nat_cmp stored.key key) past (sorted s.names) at
+      → IsRankOf (λ other. order_of now other name) past (sorted_names now) at
   placed name key of past at within place =
-      subst (λ (c : Catalogue). IsPlaceOf (λ other. order_of c other name) past (sorted_names c) at) is
-      (place_by_names (meaning_in (catalogue_of s)) kept.accepted s.names kept.keyed name key
+      subst (λ (c : Catalogue). IsRankOf (λ other. order_of c other name) past (sorted_names c) at) is
+      (rank_by_names (meaning_in (catalogue_of s)) kept.accepted s.names kept.keyed name key
       (subst (λ (c : Catalogue). IsKeyOf (meaning_in c) name key) (sym is) of) past at within place)
 
   -- the key that stands with a name is the name's

@@ -12,7 +12,7 @@ use Rattle.collate_rules.specs.Lists.{IsFront}
 use Rattle.collate_rules.specs.declared.full_list.Front.{Front}
 use Rattle.collate_rules.proofs.lists.RuleFullListLemmas.{by_first, expanded-suc, expanded_some, expanded_unmapped}
 
--- the first of two lists, one behind the other
+-- the first of two lists, one after the other
 pub first_of_two : (xs ys : List ℕ) → slice_get (xs ++ ys) 0 ≡ option_or (slice_get xs 0) (slice_get ys 0)
 first_of_two [] ys = refl
 first_of_two (x ∷ xs) ys = refl
@@ -52,7 +52,7 @@ module _ (step : ℕ → List ℕ) (order : List ℕ) (in_order : AreInOrder ste
       let P : ℕ → Type 0 = λ n. expanded step n x ≡ expanded step (suc n) x in subst P same w.2)
       ∙ sym (expanded-suc step (suc m) (slice_index order k) ∙ ap (by_first step (suc m) (slice_index order k)) e)
 
-  -- as many steps as there are places before a character leave what more steps leave
+  -- as many steps as there are indices before a character leave what more steps leave
   pub stays : (m k : ℕ) → k < length order → k ≤ m → expanded step m (slice_index order k) ≡ expanded step (suc m) (slice_index order k)
   stays zero k within low =
       stays_by zero k (step (slice_index order k)) refl (λ x h. let at = in_order.behind k within x h in let less = at.1 in absurd (omega arith))

@@ -79,7 +79,7 @@ any_step-grows lines more none c =
     (subst (λ (p : Option (List ℕ)). Q (option_or m (first_found (mapping_in c) more)) p) f
     (subst (λ (o : Option (List ℕ)). Q o (first_found (compatibility_in c) (lines ++ more))) e (once_mapped (lines ++ more) none c)))))
 
--- some parts, and those behind them
+-- some parts, and those after them
 pub parts_split : (parts : List CanonicalPart) (k : ℕ) → map in_full (take k parts) ++ map in_full (drop k parts) ≡ map in_full parts
 parts_split parts k = sym (map-append in_full (take k parts) (drop k parts)) ∙ ap (map in_full) (take-append-drop k parts)
 

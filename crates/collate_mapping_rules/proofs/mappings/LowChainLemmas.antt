@@ -72,7 +72,7 @@ follow_end parts c x n next starts none followed k =
     (step_none lines (map in_full (drop k parts)) (map in_full parts) whole x none) w.0 w.1 w.2)
     (followed.each k)
 
--- a mark put before a tail that it doesn't go behind
+-- a mark put before a tail that it doesn't go after
 put_front : (lines : List Record) (b : ℕ) (tail : List ℕ) → ((d : ℕ) (ds : List ℕ) → tail ≡ d ∷ ds → (ltb 0 (class_of lines d) && ltb (class_of lines d) (class_of lines b)) ≡ false)
     → marks_in_order (class_of lines) tail ≡ tail → marks_in_order (class_of lines) (b ∷ tail) ≡ b ∷ tail
 put_front lines b [] apart sorted = in_order_cons (class_of lines) b [] ∙ ap (put_in_order (class_of lines) b) sorted ∙ put_last (class_of lines) b

@@ -1,4 +1,4 @@
--- A character put before a list whose marks are in order: its place, and the list that is left.
+-- A character put before a list whose marks are in order: its index, and the list that is left.
 use Rattle.std.proofs.Common.{◌≡◌, ℕ, suc, ◌+◌, ◌-◌, ◌<◌, ◌≤◌, ◌&&◌, ltb, Bool, true, false, List, [], ◌∷◌, ◌++◌, length, get_or, take, drop, refl, sym, ap, ◌∙◌, append_assoc, add-one, drop-cons}
 use Rattle.std.proofs.lemmas.Bool.{cond-true, cond-false}
 use Rattle.std.proofs.lemmas.List.{take_more}
@@ -29,9 +29,9 @@ module _ (class : ℕ → ℕ) where
       sym (ap (λ (n : ℕ). ltb 0 n && ltb n (class c)) e) ∙ sym (ap (λ (n : ℕ). ltb 0 k && ltb k n) f) ∙ sym is ∙ h
 
   -- past a mark of a lower class
-  pub place_further : (c : ℕ) (list : List ℕ) (i : ℕ) → i < length list → passes c (get_or list i 0) ≡ true
+  pub index_further : (c : ℕ) (list : List ℕ) (i : ℕ) → i < length list → passes c (get_or list i 0) ≡ true
       → take (i + 1) list ++ put_in_order class c (drop (i + 1) list) ≡ take i list ++ put_in_order class c (drop i list)
-  place_further c list i within e =
+  index_further c list i within e =
       let d = get_or list i 0 in
       ap (λ (l : List ℕ). l ++ put_in_order class c (drop (i + 1) list)) (take_more list i 0 within)
       ∙ append_assoc (take i list) (d ∷ []) (put_in_order class c (drop (i + 1) list))
@@ -40,9 +40,9 @@ module _ (class : ℕ → ℕ) where
       ∙ ap (λ (l : List ℕ). take i list ++ put_in_order class c l) (sym (drop-cons list i 0 within))
 
   -- before what isn't one
-  pub place_here : (c : ℕ) (list : List ℕ) (i : ℕ) → i < length list → passes c (get_or list i 0) ≡ false
+  pub index_here : (c : ℕ) (list : List ℕ) (i : ℕ) → i < length list → passes c (get_or list i 0) ≡ false
       → take i list ++ put_in_order class c (drop i list) ≡ take i list ++ c ∷ drop i list
-  place_here c list i within e =
+  index_here c list i within e =
       let d = get_or list i 0 in
       let rest = drop-cons list i 0 within in
       ap (λ (l : List ℕ). take i list ++ put_in_order class c l) rest
@@ -50,9 +50,9 @@ module _ (class : ℕ → ℕ) where
       ∙ ap (λ (l : List ℕ). take i list ++ c ∷ l) (sym rest)
 
   -- at the end
-  pub place_last : (c : ℕ) (list : List ℕ) (i : ℕ) → length list ≤ i
+  pub index_last : (c : ℕ) (list : List ℕ) (i : ℕ) → length list ≤ i
       → take i list ++ put_in_order class c (drop i list) ≡ take i list ++ c ∷ drop i list
-  place_last c list i past =
+  index_last c list i past =
       let none : drop i list ≡ [] = drop_of_length-le list past in
       ap (λ (l : List ℕ). take i list ++ put_in_order class c l) none
       ∙ ap (λ (l : List ℕ). take i list ++ l) (put_last c)

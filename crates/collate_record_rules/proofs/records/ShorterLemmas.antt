@@ -15,7 +15,7 @@ neither true r = refl
 neither false r = refl
 
 module _ (records : List Record) (c d : ℕ) (ds : List ℕ) (last : ℕ) where
-  -- what stands behind the first character
+  -- what stands after the first character
   abbrev suffix : List ℕ
   suffix = (d ∷ ds) ++ last ∷ []
 

@@ -24,7 +24,7 @@ module _ (class_of : ℕ → ℕ) where
   not_below : (a b : ℕ) → class_of a ≤ class_of b → is_below a b ≡ false
   not_below a b h = and_right (ltb 0 (class_of b)) (ltb (class_of b) (class_of a)) (le-ltb (class_of b) (class_of a) h)
 
-  -- what is put behind a character of a lower class is in order behind it
+  -- what is put after a character of a lower class is in order after it
   put_behind : (c d : ℕ) (ds : List ℕ) → class_of d ≤ class_of c → is_disordered class_of (d ∷ ds) ≡ false
       → is_disordered class_of (put_in_order class_of c ds) ≡ false → is_disordered class_of (d ∷ put_in_order class_of c ds) ≡ false
   unfolding put_in_order

@@ -5,14 +5,14 @@ use Rattle.collate_lines.specs.Record.{Record, nothing}
 use Rattle.collate_lines.specs.Repeats.{says_something}
 use Rattle.collate_lines.specs.Lines.{numbers_from}
 
--- line `place` of all is the one at place j of those that say something
+-- line `index` of all is the one at index j of those that say something
 pub record IsNumbered (n : ℕ) (all : List Record) (j i : ℕ) : Type 0 where
-  pub place : ℕ
-  pub is : i ≡ n + place
-  pub within : place < length all
-  pub says : says_something (get_or all place nothing) ≡ true
-  pub before : take j (filter says_something all) ≡ filter says_something (take place all)
-  pub here : slice_get (filter says_something all) j ≡ Some (get_or all place nothing)
+  pub index : ℕ
+  pub is : i ≡ n + index
+  pub within : index < length all
+  pub says : says_something (get_or all index nothing) ≡ true
+  pub before : take j (filter says_something all) ≡ filter says_something (take index all)
+  pub here : slice_get (filter says_something all) j ≡ Some (get_or all index nothing)
 
 -- a line more in front
 filter_head : (r : Record) (rs : List Record) (b : Bool) → says_something r ≡ b → filter says_something (r ∷ rs) ≡ cond b (r ∷ filter says_something rs) (filter says_something rs)
@@ -20,7 +20,7 @@ filter_head r rs b e = ap (λ (t : Bool). cond t (r ∷ filter says_something rs
 
 first_numbered : (n : ℕ) (r : Record) (rs : List Record) (i : ℕ) → says_something r ≡ true → n ≡ i → IsNumbered n (r ∷ rs) 0 i
 first_numbered n r rs i says e = record {
-  place = 0;
+  index = 0;
   is = omega arith;
   within = omega arith;
   says = says;
@@ -30,21 +30,21 @@ first_numbered n r rs i says e = record {
 
 later_numbered : (n : ℕ) (r : Record) (rs : List Record) (j i : ℕ) → says_something r ≡ true → IsNumbered (n + 1) rs j i → IsNumbered n (r ∷ rs) (suc j) i
 later_numbered n r rs j i says w = record {
-  place = suc w.place;
+  index = suc w.index;
   is = omega (arith, w.is);
   within = omega (arith, w.within);
   says = w.says;
-  before = ap (take (suc j)) (filter_head r rs true says) ∙ ap (λ (l : List Record). r ∷ l) w.before ∙ sym (filter_head r (take w.place rs) true says);
+  before = ap (take (suc j)) (filter_head r rs true says) ∙ ap (λ (l : List Record). r ∷ l) w.before ∙ sym (filter_head r (take w.index rs) true says);
   here = ap (λ (l : List Record). slice_get l (suc j)) (filter_head r rs true says) ∙ w.here;
 }
 
 past_numbered : (n : ℕ) (r : Record) (rs : List Record) (j i : ℕ) → says_something r ≡ false → IsNumbered (n + 1) rs j i → IsNumbered n (r ∷ rs) j i
 past_numbered n r rs j i says w = record {
-  place = suc w.place;
+  index = suc w.index;
   is = omega (arith, w.is);
   within = omega (arith, w.within);
   says = w.says;
-  before = ap (take j) (filter_head r rs false says) ∙ w.before ∙ sym (filter_head r (take w.place rs) false says);
+  before = ap (take j) (filter_head r rs false says) ∙ w.before ∙ sym (filter_head r (take w.index rs) false says);
   here = ap (λ (l : List Record). slice_get l j) (filter_head r rs false says) ∙ w.here;
 }
 
@@ -58,7 +58,7 @@ numbered n (r ∷ rs) j i e = by (says_something r) j refl (λ k. numbered (n + 
     by true (suc k) says later at = later_numbered n r rs k i says (later k at)
     by false k says later at = past_numbered n r rs k i says (later k at)
 
--- a line that says something has a place among those
+-- a line that says something has an index among those
 pub number_here : (n : ℕ) (all : List Record) (k : ℕ) → k < length all → says_something (get_or all k nothing) ≡ true
     → slice_get (numbers_from n all) (length (filter says_something (take k all))) ≡ Some (n + k)
 number_here n [] k within says = absurd (omega arith)

@@ -89,8 +89,8 @@ pub record IsPlaced (file : List ℕ) (i j : ℕ) (s : Record) : Type 0 where
 placed : (file : List ℕ) (i j : ℕ) (s : Record) → i < length (lines_of file) → record_of (line_at (lines_of file) i) ≡ Some s → slice_get (numbers_of file) j ≡ Some i → IsPlaced file i j s
 placed file i j s h e at =
     let w = numbered 0 (all_of file) j i at in
-    let same : w.place ≡ i = omega (arith, w.is) in
-    let read : get_or (all_of file) w.place nothing ≡ s = ap (λ (k : ℕ). get_or (all_of file) k nothing) same ∙ said_at file i s h e in
+    let same : w.index ≡ i = omega (arith, w.is) in
+    let read : get_or (all_of file) w.index nothing ≡ s = ap (λ (k : ℕ). get_or (all_of file) k nothing) same ∙ said_at file i s h e in
     record {
       here = ap (λ (o : Option Record). unwrap_or o nothing) w.here ∙ read;
       before = w.before ∙ ap (λ (k : ℕ). filter says_something (take k (all_of file))) same;
@@ -100,9 +100,9 @@ placed file i j s h e at =
 -- whether an earlier line was for the thing of line i
 seen_before : (file : List ℕ) (i j : ℕ) (s : Record) (reading : Reading) → IsPlaced file i j s → IsReadTo file i reading
     → list_any (λ t. is_second t (record_at (records_of file) j)) (take j (records_of file)) ≡ is_seen reading.seen s
-seen_before file i j s reading place has =
-    ap (λ (t : Record). list_any (λ r. is_second r t) (take j (records_of file))) place.here
-    ∙ ap (λ (l : List Record). list_any (λ r. is_second r s) l) (place.before ∙ sym has.records)
+seen_before file i j s reading index has =
+    ap (λ (t : Record). list_any (λ r. is_second r t) (take j (records_of file))) index.here
+    ∙ ap (λ (l : List Record). list_any (λ r. is_second r s) l) (index.before ∙ sym has.records)
     ∙ sym (has.seen s)
 
 -- it was: line i breaks V14
@@ -119,8 +119,8 @@ pub not_again : (limits : Limits) (file : List ℕ) (i : ℕ) (s : Record) (read
     → IsReadTo file i reading → (says_something s ≡ true → is_seen reading.seen s ≡ false) → Breaks limits V14 file i → ⊥
 not_again limits file i s reading h e has fresh breaks =
     let offends : OffendsIn limits V14 file i = breaks.1 in
-    let place = placed file i offends.0 s h e offends.1 in
-    let clash : true ≡ false = sym offends.2 ∙ seen_before file i offends.0 s reading place has ∙ fresh place.says in cc
+    let index = placed file i offends.0 s h e offends.1 in
+    let clash : true ≡ false = sym offends.2 ∙ seen_before file i offends.0 s reading index has ∙ fresh index.says in cc
 
 -- line i is in the grammar
 pub not_outside : (limits : Limits) (file : List ℕ) (i : ℕ) (s : Record) → record_of (line_at (lines_of file) i) ≡ Some s → (PassesSize limits.bytes file i → ⊥) → Breaks limits Grammar file i → ⊥

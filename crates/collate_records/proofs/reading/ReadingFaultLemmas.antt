@@ -174,7 +174,7 @@ refuses_of limits file rule records numbers j error of within e ranked found kee
 pub none_of : (limits : Limits) (file : List ℕ) (rule : Rule) (records : List Record) (numbers : List ℕ) → AreOfFile file records numbers → 0 < rank rule → NoneOffendsWithin limits rule records → KeepsBelow limits (rank rule) file → KeepsBelow limits (rank rule + 1) file
 none_of limits file rule records numbers of ranked none keeps = none_found limits file rule ranked (subst (NoneOffendsWithin limits rule) of.same_records none) keeps
 
--- rules behind the limits know no limits
+-- rules after the limits know no limits
 same_offences : (limits : Limits) (rule : Rule) (records : List Record) (i : ℕ) → 1 < rank rule → (Offends rule records i → OffendsWithin limits rule records i) × (OffendsWithin limits rule records i → Offends rule records i)
 same_offences limits Limit records i behind = absurd (omega arith)
 same_offences limits rule records i behind = (λ offends. offends, λ offends. offends)

@@ -59,7 +59,7 @@ end_ordered : (class : ℕ → ℕ) (xs ys : List ℕ) → is_disordered class (
 end_ordered class [] ys h = h
 end_ordered class (x ∷ xs) ys h = end_ordered class xs ys (one_less class x (xs ++ ys) h)
 
--- and such a list behind a starter
+-- and such a list after a starter
 behind_starter : (class : ℕ → ℕ) (x : ℕ) (list : List ℕ) → class x ≡ 0 → is_disordered class list ≡ false → is_disordered class (x ∷ list) ≡ false
 behind_starter class x [] zero h = refl
 behind_starter class x (y ∷ list) zero h =

@@ -97,16 +97,16 @@ module _ {X : Type 0} (alike : X → X → Bool) (d : X) where
       false_from_ne_true (alike (get_or xs i e) (get_or xs j e))
       (λ t. new j within (list_any_at test (take j xs) i d (omega (arith, less, long)) (ap test read ∙ ap (alike (get_or xs i e)) other ∙ t))))
 
-  found_place : (test : X → Bool) (xs : List X) → list_any test xs ≡ true → (i : ℕ) × (i < length xs) × (test (get_or xs i d) ≡ true)
-  found_place test [] h = absurd (false≢true h)
-  found_place test (x ∷ xs) h =
-      ⊎_elim (λ here. (0, omega arith, here)) (λ later. let w = found_place test xs later in (suc w.0, omega (arith, w.1), w.2))
+  found_index : (test : X → Bool) (xs : List X) → list_any test xs ≡ true → (i : ℕ) × (i < length xs) × (test (get_or xs i d) ≡ true)
+  found_index test [] h = absurd (false≢true h)
+  found_index test (x ∷ xs) h =
+      ⊎_elim (λ here. (0, omega arith, here)) (λ later. let w = found_index test xs later in (suc w.0, omega (arith, w.1), w.2))
       (or_cases (test x) (list_any test xs) h)
 
   new_of_distinct : (xs : List X) → IsDistinct alike xs → IsNew xs
   new_of_distinct xs distinct j within t =
       let test : X → Bool = λ s. alike s (get_or xs j d) in
-      let w = found_place test (take j xs) t in
+      let w = found_index test (take j xs) t in
       let long : length (take j xs) ≡ j = length-take-le j xs (omega (arith, within)) in
       let less : w.0 < j = omega (arith, w.1, long) in
       let read : get_or (take j xs) w.0 d ≡ get_or xs w.0 d = get_or-take j xs w.0 d less in

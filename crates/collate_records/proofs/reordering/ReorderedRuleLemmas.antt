@@ -64,7 +64,7 @@ pair_flips None (Some q) = refl
 pair_flips None None = refl
 
 module _ (a b : List Record) (moved : IsPermutation a b) where
-  -- what holds of each line by its place
+  -- what holds of each line by its index
   pub each_moved : (P : Record → Type 0) → ((i : ℕ) → i < length a → P (record_at a i)) → (i : ℕ) → i < length b → P (record_at b i)
   each_moved P each i lt =
       subst P (sym (unwrap_or-slice_get b i nothing)) (All-get_or P b i nothing lt (All-permutation P a b moved (each_line P a each)))

@@ -20,7 +20,7 @@ use Rattle.collate_lines.specs.Record.{Record, weights, digit, Layer}
 use Rattle.collate_rules.specs.GivenWeights.{BreakApart, BreakPrimaries, BreakRanges, are_all_disjoint, are_sound_ranges, elements_of, given_elements, given_ranges, has_sound_primary, leads_to, numeric_to, ranges_of}
 use Rattle.collate_rules.specs.Meaning.{canonical_of, class_of, dot_above_in, is_compressible_in, set_to, weights_of}
 use Rattle.collate_rules.specs.Offenders.{NoneOffends}
-use Rattle.collate_rules.specs.Places.{Stays}
+use Rattle.collate_rules.specs.Indices.{Stays}
 use Rattle.collate_rules.specs.RecordRules.{begins_with, breaks_decomposed, breaks_digits, breaks_dot_above, breaks_marks_last, breaks_prefixes, digit_of, dotted_marks, has_late_starter, has_mapping, has_starter_behind, is_alone, is_bad_digit, is_bad_dotted, is_badly_prefixed, is_common_secondary, is_disordered, is_further, is_mark, is_other_mark, is_undecomposed, may_follow_prefix}
 use Rattle.collate_rules.proofs.given.GivenListLemmas.{apart_from, apart_tells, list_all_from, list_all_tells}
 use Rattle.collate_weight_rules.proofs.soundness.StayLemmas.{apart_stays, primaries_stay, ranges_stay_broken}
@@ -74,7 +74,7 @@ module _ (a b : List Record) (moved : IsPermutation a b) where
   together P Q stays same none keeps i lt h =
       none_together Q none a keeps (same (subst P (take-append-drop (i + 1) b) (stays (take (i + 1) b) (drop (i + 1) b) h)))
 
-  -- the same of a breach that stays from place to place
+  -- the same of a breach that stays from index to index
   staying : (P Q : List Record → Type 0) → Stays (λ i. P (take (i + 1) b)) → (P b → Q a) → (Q [] → ⊥)
       → ((i : ℕ) → i < length a → Q (take (i + 1) a) → ⊥) → (i : ℕ) → i < length b → P (take (i + 1) b) → ⊥
   staying P Q stays same none keeps i lt h =

@@ -27,7 +27,7 @@ option_or-none (Some x) = refl
 pub first_found-skip : {A B : Type 0} (f : A → Option B) (xs : List A) (x : A) → f x ≡ None → first_found f (xs ++ x ∷ []) ≡ first_found f xs
 first_found-skip f xs x e = first_found-push f xs x ∙ ap (λ o. option_or (first_found f xs) o) e ∙ option_or-none (first_found f xs)
 
--- what holds of each line holds of the line at a place
+-- what holds of each line holds of the line at an index
 pub All-map_at : {A B : Type 0} (P : B → Type 0) (f : A → B) (xs ys : List A) (i : ℕ) (x : A)
     → ys ≡ xs → i < length ys → x ≡ get_or ys i x → All P (map f xs) → P (f x)
 All-map_at P f xs ys i x same below is all =

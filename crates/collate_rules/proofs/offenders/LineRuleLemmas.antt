@@ -10,7 +10,7 @@ use Rattle.collate_lines.specs.declared.record.Record.TheVariants.{Nothing}
 use Rattle.collate_lines.specs.Record.{Record, nothing, said}
 use Rattle.collate_lines.specs.Repeats.{record_at}
 
--- what holds of every line by its place holds of all
+-- what holds of every line by its index holds of all
 pub each_line : (P : Record → Type 0) (records : List Record) → ((i : ℕ) → i < length records → P (record_at records i)) → All P records
 each_line P records each =
     All-from_get_or P records nothing (λ i lt. subst P (unwrap_or-slice_get records i nothing) (each i lt))

@@ -32,7 +32,7 @@ sent-all value old new bytes sends =
     let e : bytes ≡ sends.sent = sends.bytes_are ∙ ap (λ (xs : List ℕ). sends.sent ++ xs) sends.whole ∙ append-nil sends.sent in
     subst (λ (xs : List ℕ). Appends old new xs) (sym e) sends.appends
 
--- all was sent, and nothing came behind it
+-- all was sent, and nothing came after it
 pub sent-kept : {E F : Type 0} (value : Unit {0}) (result : Result (Unit {0}) F) (a b c : Option (List ℕ)) (bytes : List ℕ) → Sends {E = E} (Ok value) a b bytes → Keeps b c → Sends result a c bytes
 sent-kept value (Ok done) a b c bytes sends keeps = record {
   sent = bytes;

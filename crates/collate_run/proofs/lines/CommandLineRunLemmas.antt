@@ -44,7 +44,7 @@ progress-none start reader writer = record {
   within = omega arith;
 }
 
--- what a fault leaves without an answer stands behind the lines that got theirs
+-- what a fault leaves without an answer stands after the lines that got theirs
 does-fault : (start : Catalogue) (fault : RunFault) (left : Option (List ℕ)) (lines front rest : List (List ℕ)) (out : List ℕ)
     → lines ≡ front ++ rest → AreReplies start front out → IsUnanswered fault left rest → Does start (Err fault) left lines out
 does-fault start Memory left lines front rest out e replies h = (front, rest, e, replies, h)

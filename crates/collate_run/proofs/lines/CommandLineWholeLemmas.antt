@@ -1,4 +1,4 @@
--- bytes behind whole lines
+-- bytes after whole lines
 use Rattle.std.proofs.Common.{◌≡◌, ℕ, ◌+◌, Result, Ok, Err, List, [], ◌∷◌, ◌++◌, length, take, All, refl, sym, ap, ◌∙◌, subst, append_assoc, length-append, arith}
 use Rattle.std.proofs.Math.Seq.{take-append-add}
 use Rattle.std.proofs.lemmas.List.{append-nil}
@@ -37,7 +37,7 @@ module _ (lines : List (List ℕ)) (front : List ℕ) (whole : AreWhole lines fr
     take-then : (bytes : List ℕ) → take limit (front ++ bytes) ≡ front ++ take room bytes
     take-then bytes = ap (λ (n : ℕ). take n (front ++ bytes)) (sym at) ∙ take-append-add front bytes room
 
-    -- the lines that are read come behind the lines in front
+    -- the lines that are read come after the lines in front
     pub lines_read-then : (result : Result (Unit {0}) RunFault) (bytes : List ℕ) → lines_read result limit (front ++ bytes) ≡ lines ++ lines_read result room bytes
     lines_read-then (Ok done) bytes = lines_of-then bytes
     lines_read-then (Err Memory) bytes = whole_lines-then bytes
@@ -47,7 +47,7 @@ module _ (lines : List (List ℕ)) (front : List ℕ) (whole : AreWhole lines fr
     lines_read-then (Err InputTooLong) bytes = ap whole_lines (take-then bytes) ∙ whole_lines-then (take room bytes)
     lines_read-then (Err CutReload) bytes = lines_of-then bytes
 
-    -- what keeps the input limit behind the front keeps it with the front
+    -- what keeps the input limit after the front keeps it with the front
     pub input_limit-then : (result : Result (Unit {0}) RunFault) (bytes : List ℕ) → KeepsInputLimit result room bytes → KeepsInputLimit result limit (front ++ bytes)
     input_limit-then (Ok done) bytes h = omega (arith, at, length-append front bytes, h)
     input_limit-then (Err Memory) bytes h = omega (arith, at, length-append front bytes, h)
@@ -61,7 +61,7 @@ module _ (lines : List (List ℕ)) (front : List ℕ) (whole : AreWhole lines fr
       pub within-then : (bytes : List ℕ) → All IsWithin (lines_of bytes) → All IsWithin (lines_of (front ++ bytes))
       within-then bytes h = All-same IsWithin (lines_of (front ++ bytes)) (lines ++ lines_of bytes) (lines_of-then bytes) (All-append IsWithin lines (lines_of bytes) short h)
 
-      -- what keeps the line limit behind the front keeps it with the front
+      -- what keeps the line limit after the front keeps it with the front
       pub line_limit-then : (result : Result (Unit {0}) RunFault) (bytes : List ℕ) → KeepsLineLimit result room bytes → KeepsLineLimit result limit (front ++ bytes)
       line_limit-then (Ok done) bytes h = within-then bytes h
       line_limit-then (Err Memory) bytes h = within-then bytes h

@@ -1,4 +1,4 @@
--- a line and the record lines behind it, read line by line
+-- a line and the record lines after it, read line by line
 use Rattle.std.proofs.Common.{◌≡◌, ℕ, ◌+◌, ◌-◌, ◌<◌, ◌≤◌, Bool, true, false, not, Option, None, Some, Err, List, [], ◌∷◌, ◌++◌, ◌⊎◌, inl, inr, length, take, All, refl, sym, ap, ◌∙◌, subst, append_assoc, length-append, arith}
 use Rattle.std.proofs.lemmas.List.{append-nil, take-append-le, take_all}
 use Rattle.std.proofs.lemmas.List.Elements.{All-cons, All-nil, All-push, All-same}
@@ -182,7 +182,7 @@ first-more limit kept before more short first =
     let same : before ≡ kept = first.1 ∙ ap (λ (xs : List ℕ). kept ++ xs) (first.2 short) ∙ append-nil kept in
     ([], ap (λ (xs : List ℕ). xs ++ more) same ∙ sym (append-nil (kept ++ more)), λ _. refl)
 
--- what is kept when a record line more is put behind the others
+-- what is kept when a record line more is put after the others
 pub kept-more : {V : Type 0} (IsKept : V → List ℕ → Type 0) (kept : Option V) (front line lent : List ℕ) → lent ≡ line
     → IfSome kept (λ v. IsKept v (front ++ ended lent)) → IfSome kept (λ v. IsKept v (front ++ ended line))
 kept-more IsKept kept front line lent e h = subst (λ (xs : List ℕ). IfSome kept (λ v. IsKept v (front ++ ended xs))) e h

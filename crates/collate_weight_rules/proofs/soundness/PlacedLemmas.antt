@@ -14,7 +14,7 @@ use Rattle.icu_collator_core.proofs.apart.LevelLemmas.{all_levels, from_mapped, 
 use Rattle.collate_lines.specs.declared.record.Record.{Record as Line}
 use Rattle.collate_lines.specs.Record.{Record, nothing, said}
 use Rattle.collate_rules.specs.GivenWeights.{are_all_apart, elements_of, given_elements}
-use Rattle.collate_rules.specs.Places.{TellsFirstPlace}
+use Rattle.collate_rules.specs.Indices.{TellsFirstIndex}
 use Rattle.collate_rules.proofs.given.GivenListLemmas.{apart_told, list_all_from, list_all_tells}
 use Rattle.collate_weight_rules.specs.declared.apart.ApartTest.{ApartTest}
 use Rattle.collate_weight_rules.specs.PlacedWeights.{HasPlaced, are_apart_to, are_weights_apart, placed_elements, weights_to}
@@ -158,10 +158,10 @@ apart_to records test line has =
     (level_apart (λ e. e.secondary * 2 ^ 16) records test.secondaries.items has.secondaries line)
     (level_apart (λ e. e.tertiary * 2 ^ 16) records test.tertiaries.items has.tertiaries line))
 
--- a first place of what holds where another thing does
-pub told_as : (H K : ℕ → Type 0) (count : ℕ) (found : Option ℕ) → ((i : ℕ) → H i ↔ K i) → TellsFirstPlace H count found → TellsFirstPlace K count found
+-- a first index of what holds where another thing does
+pub told_as : (H K : ℕ → Type 0) (count : ℕ) (found : Option ℕ) → ((i : ℕ) → H i ↔ K i) → TellsFirstIndex H count found → TellsFirstIndex K count found
 told_as H K count None same told stays =
     let r = told (λ i j le h. (same j).1 (stays i j le ((same i).0 h))) in λ i lt k. r i lt ((same i).1 k)
-told_as H K count (Some place) same told stays =
+told_as H K count (Some index) same told stays =
     let r = told (λ i j le h. (same j).1 (stays i j le ((same i).0 h))) in
-    (r.0, (same place).0 r.1, λ j lt k. r.2 j lt ((same j).1 k))
+    (r.0, (same index).0 r.1, λ j lt k. r.2 j lt ((same j).1 k))

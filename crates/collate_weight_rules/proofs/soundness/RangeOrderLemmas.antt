@@ -49,7 +49,7 @@ not_unset : (b : Bool) → not b ≡ false → b ≡ true
 not_unset true h = refl
 not_unset false h = absurd (false≢true (sym h))
 
--- ---- Of all pairs, as a list and by places
+-- ---- Of all pairs, as a list and by indices
 
 all_unshared : (a : Range) (rs : List Range) → list_all (are_disjoint a) rs ≡ true → AllByRecursion (λ b. share (span_of a) b ≡ false) (map span_of rs)
 all_unshared a [] h = tt

@@ -6,7 +6,7 @@ use Rattle.std.proofs.lemmas.Grind.{flat_map-append}
 use Rattle.std.proofs.lemmas.List.{take-append-drop, take-take}
 use Rattle.collate_lines.specs.Record.{Record}
 use Rattle.collate_rules.specs.GivenWeights.{BreakApart, BreakPrimaries, BreakRanges, are_all_apart, are_sound_ranges, elements_of, given_elements, given_ranges, has_sound_primary, leads_to, ranges_of}
-use Rattle.collate_rules.specs.Places.{Stays}
+use Rattle.collate_rules.specs.Indices.{Stays}
 use Rattle.collate_rules.proofs.given.GivenListLemmas.{apart_front, list_all_front}
 use Rattle.collate_weight_rules.proofs.soundness.WeightRuleLeadLemmas.{more_leads}
 use Rattle.collate_weight_rules.proofs.soundness.WeightRuleRangeLemmas.{has_primary_stays, ranges_stay}

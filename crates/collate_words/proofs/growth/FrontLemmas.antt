@@ -30,16 +30,16 @@ Grows-trans a b c first second = record {
 pub length-front : (list longer : List ℕ) → IsFrontOf list longer → length list ≤ length longer
 length-front list longer front = omega (arith, ap length front.1, length-append list front.0)
 
-pub items_at-front : (list longer : List ℕ) (place count : ℕ) → IsFrontOf list longer → place + count ≤ length list
-    → items_at longer place count ≡ items_at list place count
-items_at-front list longer place count front within =
-    let below : place ≤ length list = omega arith
-    in let left : count ≤ length (drop place list) = omega (arith, length-drop place list)
-    in ap (λ (xs : List ℕ). take count (drop place xs)) front.1
-    ∙ ap (take count) (drop-append-le place list front.0 below)
-    ∙ take-append-le count (drop place list) front.0 left
+pub items_at-front : (list longer : List ℕ) (index count : ℕ) → IsFrontOf list longer → index + count ≤ length list
+    → items_at longer index count ≡ items_at list index count
+items_at-front list longer index count front within =
+    let below : index ≤ length list = omega arith
+    in let left : count ≤ length (drop index list) = omega (arith, length-drop index list)
+    in ap (λ (xs : List ℕ). take count (drop index xs)) front.1
+    ∙ ap (take count) (drop-append-le index list front.0 below)
+    ∙ take-append-le count (drop index list) front.0 left
 
-pub slice_index-front : (list longer : List ℕ) (place : ℕ) → IsFrontOf list longer → place < length list
-    → slice_index longer place ≡ slice_index list place
-slice_index-front list longer place front within =
-    ap (λ (xs : List ℕ). slice_index xs place) front.1 ∙ get_or_append_left list front.0 0 place within
+pub slice_index-front : (list longer : List ℕ) (index : ℕ) → IsFrontOf list longer → index < length list
+    → slice_index longer index ≡ slice_index list index
+slice_index-front list longer index front within =
+    ap (λ (xs : List ℕ). slice_index xs index) front.1 ∙ get_or_append_left list front.0 0 index within

@@ -10,7 +10,7 @@ use Rattle.icu_collator_types.specs.declared.elements.word_tags.Tag.TheVariants.
 use Rattle.icu_collator_types.specs.ElementWords.{has_tag}
 use Rattle.icu_collator_core.specs.Pools.{Pools, element_of, elements_of_word, index_of, length_of, stated_element}
 use Rattle.icu_collator_core.specs.WordForms.{has_form, is_other_own, is_own_word, states_element}
-use Rattle.icu_collator_core.specs.WordPlaces.{has_items, has_list}
+use Rattle.icu_collator_core.specs.WordIndices.{has_items, has_list}
 use Rattle.collate_words.specs.Growth.{Grows}
 use Rattle.collate_words.specs.OwnWords.{IsOwnWord, offset_named}
 use Rattle.collate_words.proofs.growth.FrontLemmas.{items_at-front, length-front, slice_index-front}

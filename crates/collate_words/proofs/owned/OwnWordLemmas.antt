@@ -43,18 +43,18 @@ elements_of-bits (e ∷ es) fit =
     in ap (λ (f : Element). f ∷ map element_of (map bits_of es)) (element_of-bits_of e both.0)
     ∙ ap (λ (fs : List Element). e ∷ fs) (elements_of-bits es both.1)
 
--- ---- The fields of a word that names a place
+-- ---- The fields of a word that names an index
 
--- a word names a place in a list, with the length of what stands there, and a byte
-record IsNaming (word place count byte : ℕ) : Type 0 where
+-- a word names an index in a list, with the length of what stands there, and a byte
+record IsNaming (word at count byte : ℕ) : Type 0 where
   fits : word < 2 ^ 32
-  index : index_of word ≡ place
+  index : index_of word ≡ at
   items : length_of word ≡ count
   low : word % 2 ^ 8 ≡ byte
 
-is_naming : (word place n byte : ℕ) → word ≡ place * 2 ^ 13 + (n * 2 ^ 8 + byte) → place < 2 ^ 19 → n < 2 ^ 5 → byte < 2 ^ 8
-    → IsNaming word place n byte
-is_naming word place n byte is low few small = record {
+is_naming : (word at n byte : ℕ) → word ≡ at * 2 ^ 13 + (n * 2 ^ 8 + byte) → at < 2 ^ 19 → n < 2 ^ 5 → byte < 2 ^ 8
+    → IsNaming word at n byte
+is_naming word at n byte is low few small = record {
   fits = omega arith;
   index = omega arith;
   items = omega arith;
@@ -157,7 +157,7 @@ module _ (pools : Pools) (before : List ℕ) (es : List Element) (word : ℕ) (f
       items : items_at pools.ce32s (index_of word) (length_of word) ≡ map word_of es
       items =
           ap (λ (list : List ℕ). items_at list (index_of word) (length_of word)) appended
-          ∙ ap (λ (place : ℕ). items_at (before ++ map word_of es) place (length_of word)) naming.index
+          ∙ ap (λ (index : ℕ). items_at (before ++ map word_of es) index (length_of word)) naming.index
           ∙ ap (items_at (before ++ map word_of es) (length before)) (naming.items ∙ sym count)
           ∙ items_at-end before (map word_of es)
 
@@ -194,7 +194,7 @@ module _ (pools : Pools) (before : List ℕ) (es : List Element) (word : ℕ) (f
       items : items_at pools.ces (index_of word) (length_of word) ≡ map bits_of es
       items =
           ap (λ (list : List ℕ). items_at list (index_of word) (length_of word)) appended
-          ∙ ap (λ (place : ℕ). items_at (before ++ map bits_of es) place (length_of word)) naming.index
+          ∙ ap (λ (index : ℕ). items_at (before ++ map bits_of es) index (length_of word)) naming.index
           ∙ ap (items_at (before ++ map bits_of es) (length before)) (naming.items ∙ sym count)
           ∙ items_at-end before (map bits_of es)
 

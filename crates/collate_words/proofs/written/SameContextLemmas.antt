@@ -11,7 +11,7 @@ use Rattle.icu_char16trie.specs.UnitMaps.{MapsKey, at_node}
 use Rattle.icu_collator_types.specs.declared.elements.word_tags.Tag.TheVariants.{Digit}
 use Rattle.icu_collator_types.specs.ElementWords.{has_tag}
 use Rattle.icu_collator_core.specs.Pools.{Pools, default_word, index_of, trie_of, word_in_context}
-use Rattle.icu_collator_core.specs.WordPlaces.{has_context, has_digit_word, has_items}
+use Rattle.icu_collator_core.specs.WordIndices.{has_context, has_digit_word, has_items}
 use Rattle.collate_words.specs.Contexts.{AreKeys}
 use Rattle.collate_words.specs.Growth.{Grows, IsFrontOf}
 use Rattle.collate_words.proofs.growth.FrontLemmas.{length-front, slice_index-front}
@@ -28,44 +28,44 @@ pub record AreKeptLonger : Type 0 where
       ≡ value_of_key units key
 
 -- a context reads the same in a longer list
-pub record IsSameContext (contexts longer : List ℕ) (place : ℕ) : Type 0 where
-  pub default_is : default_word longer place ≡ default_word contexts place
-  pub grammar : IsUnitTrie (trie_of longer place)
-  pub words : (cs : List ℕ) → word_in_context longer place cs ≡ word_in_context contexts place cs
-  pub maps : (key : List ℕ) (number : ℤ) → MapsKey (trie_of longer place) (at_node 0) key number ↔ MapsKey
-      (trie_of contexts place) (at_node 0) key number
+pub record IsSameContext (contexts longer : List ℕ) (index : ℕ) : Type 0 where
+  pub default_is : default_word longer index ≡ default_word contexts index
+  pub grammar : IsUnitTrie (trie_of longer index)
+  pub words : (cs : List ℕ) → word_in_context longer index cs ≡ word_in_context contexts index cs
+  pub maps : (key : List ℕ) (number : ℤ) → MapsKey (trie_of longer index) (at_node 0) key number ↔ MapsKey
+      (trie_of contexts index) (at_node 0) key number
 
-pub same_context : AreKeptLonger → (contexts longer : List ℕ) (place : ℕ) → IsFrontOf contexts longer
-    → place + 2 < length contexts
-    → IsUnitTrie (trie_of contexts place) → IsSameContext contexts longer place
+pub same_context : AreKeptLonger → (contexts longer : List ℕ) (index : ℕ) → IsFrontOf contexts longer
+    → index + 2 < length contexts
+    → IsUnitTrie (trie_of contexts index) → IsSameContext contexts longer index
 unfolding word_in_context
-same_context kept contexts longer place front inside trie =
-    let units = trie_of contexts place in
-    let is : trie_of longer place ≡ units ++ front.0 =
-    ap (drop (place + 2)) front.1 ∙ drop-append-le (place + 2) contexts front.0 (omega (arith, inside)) in
-    let some : units ≢ [] = λ none. (let l = ap length none in let d = length-drop (place + 2) contexts in omega
+same_context kept contexts longer index front inside trie =
+    let units = trie_of contexts index in
+    let is : trie_of longer index ≡ units ++ front.0 =
+    ap (drop (index + 2)) front.1 ∙ drop-append-le (index + 2) contexts front.0 (omega (arith, inside)) in
+    let some : units ≢ [] = λ none. (let l = ap length none in let d = length-drop (index + 2) contexts in omega
     (arith, l, d, inside)) in
-    let grammar : IsUnitTrie (trie_of longer place) = subst IsUnitTrie (sym is)
+    let grammar : IsUnitTrie (trie_of longer index) = subst IsUnitTrie (sym is)
     (kept.grammar units front.0 trie some) in
-    let same : (key : List ℕ) → value_of_key (trie_of longer place) key ≡ value_of_key units key =
+    let same : (key : List ℕ) → value_of_key (trie_of longer index) key ≡ value_of_key units key =
     λ key. (ap (λ us. value_of_key us key) is ∙ kept.values units front.0 key trie some) in
     record {
       default_is =
-          ap (λ (n : ℕ). n * 2 ^ 16 + slice_index longer (place + 1))
-          (slice_index-front contexts longer place front (omega (arith, inside)))
-          ∙ ap (λ (n : ℕ). slice_index contexts place * 2 ^ 16 + n)
-          (slice_index-front contexts longer (place + 1) front (omega (arith, inside)));
+          ap (λ (n : ℕ). n * 2 ^ 16 + slice_index longer (index + 1))
+          (slice_index-front contexts longer index front (omega (arith, inside)))
+          ∙ ap (λ (n : ℕ). slice_index contexts index * 2 ^ 16 + n)
+          (slice_index-front contexts longer (index + 1) front (omega (arith, inside)));
       grammar = grammar;
       words = λ cs. ap (option_map (cast_unsigned w32)) (same (flat_map units_of cs));
       maps = λ key number. (
-        λ m. value_maps units key number trie (sym (same key) ∙ maps_value (trie_of longer place) key number grammar m),
-        λ m. value_maps (trie_of longer place) key number grammar (same key ∙ maps_value units key number trie m),
+        λ m. value_maps units key number trie (sym (same key) ∙ maps_value (trie_of longer index) key number grammar m),
+        λ m. value_maps (trie_of longer index) key number grammar (same key ∙ maps_value units key number trie m),
       );
     }
 
-pub keys_same : (contexts longer : List ℕ) (place : ℕ) (texts : List (List ℕ)) → IsSameContext contexts longer place
-    → AreKeys (trie_of contexts place) texts → AreKeys (trie_of longer place) texts
-keys_same contexts longer place texts same keys = record {
+pub keys_same : (contexts longer : List ℕ) (index : ℕ) (texts : List (List ℕ)) → IsSameContext contexts longer index
+    → AreKeys (trie_of contexts index) texts → AreKeys (trie_of longer index) texts
+keys_same contexts longer index texts same keys = record {
   grammar = same.grammar;
   counted = λ key number maps. keys.counted key number ((same.maps key number).0 maps);
   read = λ key number maps. keys.read key number ((same.maps key number).0 maps);

@@ -12,7 +12,7 @@ use Rattle.icu_collator_core.specs.declared.check.layers.Layer.TheVariants.{Root
 use Rattle.icu_collator_core.specs.Pools.{Pools, elements_of_word, index_of, lone_word, prefix_word, suffix_word, trie_of, unprefixed_word, word_in_context}
 use Rattle.icu_collator_core.specs.PrefixFaults.{HasValue, IsAmong}
 use Rattle.icu_collator_core.specs.WordForms.{AreReadable, IsUnprefixedWord, IsWord, default_of, has_form, is_own_word}
-use Rattle.icu_collator_core.specs.WordPlaces.{IsInside, IsUnprefixedInside, has_context, has_digit_word, has_items}
+use Rattle.icu_collator_core.specs.WordIndices.{IsInside, IsUnprefixedInside, has_context, has_digit_word, has_items}
 use Rattle.icu_collator_core.proofs.meaning.WordTagLemmas.{other_tag, unprefixed_same}
 use Rattle.collate_words.specs.Contexts.{HasContext}
 use Rattle.collate_words.specs.Growth.{Grows}
@@ -169,7 +169,7 @@ module _
 
   -- ---- Its form
 
-  -- the word behind, by itself
+  -- the word after, by itself
   own_behind : has_tag Contraction behind ≡ true → IsOwnWord larger (default_of larger behind) saying.own saying.offset
   own_behind t = subst (λ w. IsOwnWord larger w saying.own saying.offset)
       (lone_default larger word behind is_behind_longer t) lone_says
@@ -272,13 +272,13 @@ module _
 
   -- ---- What it says of the character beside others
 
-  context_elements : (place : ℕ) (cs : List ℕ) → IsSameContext pools.contexts larger.contexts place
-      → ((one : ℕ) → word_in_context pools.contexts place cs ≡ Some one → IsAmong pools word one)
-      → option_and_then (elements_of_word larger) (word_in_context larger.contexts place cs)
-      ≡ option_and_then (elements_of_word pools) (word_in_context pools.contexts place cs)
-  context_elements place cs same among =
+  context_elements : (index : ℕ) (cs : List ℕ) → IsSameContext pools.contexts larger.contexts index
+      → ((one : ℕ) → word_in_context pools.contexts index cs ≡ Some one → IsAmong pools word one)
+      → option_and_then (elements_of_word larger) (word_in_context larger.contexts index cs)
+      ≡ option_and_then (elements_of_word pools) (word_in_context pools.contexts index cs)
+  context_elements index cs same among =
       ap (option_and_then (elements_of_word larger)) (same.words cs)
-      ∙ at (word_in_context pools.contexts place cs) among
+      ∙ at (word_in_context pools.contexts index cs) among
     where
       at : (o : Option ℕ) → ((one : ℕ) → o ≡ Some one → IsAmong pools word one)
           → option_and_then (elements_of_word larger) o ≡ option_and_then (elements_of_word pools) o

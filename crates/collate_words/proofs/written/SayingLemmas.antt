@@ -12,7 +12,7 @@ use Rattle.icu_collator_core.specs.declared.check.layers.Layer.TheVariants.{Root
 use Rattle.icu_collator_core.specs.Pools.{Pools, digit_value, elements_of_word, index_of, lone_word, suffix_word, unprefixed_word}
 use Rattle.icu_collator_core.specs.PrefixFaults.{HasValue, IsAmong}
 use Rattle.icu_collator_core.specs.WordForms.{IsUnprefixedWord, IsWord, default_of, has_form, is_own_word}
-use Rattle.icu_collator_core.specs.WordPlaces.{IsInside, IsUnprefixedInside, has_context, has_digit_word, has_items}
+use Rattle.icu_collator_core.specs.WordIndices.{IsInside, IsUnprefixedInside, has_context, has_digit_word, has_items}
 use Rattle.icu_collator_core.proofs.apart.GrowthLemmas.{none_in}
 use Rattle.icu_collator_core.proofs.meaning.WordTagLemmas.{other_tag, unprefixed_same}
 use Rattle.collate_words.specs.ContextKeys.{AreKeysOf, HasFields, IsContext}
@@ -124,7 +124,7 @@ digit_says pools word value one saying is low own digit behind before =
 
 -- ---- Words over contexts
 
--- the word of a character that others stand behind
+-- the word of a character that others stand after
 pub contraction_says : (pools : Pools) (word one : ℕ) (own : Option (List Element)) (offset : Option ℕ)
     (saids : List SaidBeside) (flags : SuffixFlags)
     (keys : List (List ℕ × ℕ)) → word < 2 ^ 32
@@ -275,7 +275,7 @@ prefix_says pools word one saying saids keys small low says before digit beside 
     unprefixed_is : unprefixed_word pools word ≡ one
     unprefixed_is = unprefixed_default pools word tag ∙ context.default_is
 
-    -- the word behind has no prefixes, and is no digit's
+    -- the word after has no prefixes, and is no digit's
     one_prefix : has_tag Prefix one ≡ false
     one_prefix = at (has_tag Prefix one) refl
       where
@@ -324,7 +324,7 @@ prefix_says pools word one saying saids keys small low says before digit beside 
     none [] h = refl
     none (x ∷ xs) h = absurd (let l = ap length h in omega (arith, l))
 
-    -- a word within the word behind is that of the character alone, or with others behind
+    -- a word within the word after is that of the character alone, or with others after it
     behind_within : (other : ℕ) → (other ≡ lone_word pools one) ⊎ IsBesideWord pools saying other
         → (other ≡ lone_word pools word) ⊎ IsBesideWord pools (saying_before saying saids) other
     behind_within other (inl e) = inl (e ∙ sym lone_same)

@@ -1,4 +1,4 @@
--- Different keys that are sorted: the writer of unit tries refuses them for want of memory alone.
+-- Different keys that are sorted: the writer of unit tries refuses them if memory is refused alone.
 use Rattle.std.proofs.Common.{◌≡◌, ℕ, ℤ, suc, zero, ◌+◌, ◌-◌, ◌^◌, ◌<◌, ◌≤◌, Bool, true, false, cond, not, List, [], ◌∷◌, length, map, get_or, slice_get, Some, refl, ap, sym, subst, ◌∙◌, arith}
 use Rattle.std.specs.Prelude.{All, flat_map}
 use Rattle.std.specs.Cmp.Lexicographic.{slice_cmp}
@@ -84,60 +84,60 @@ adjacent keys once sorted k d inside =
 
 -- ---- No fault
 
-record IsGot (keys : List ContextKey) (place : ℕ) (pair : List ℕ × ℤ) : Type 0 where
+record IsGot (keys : List ContextKey) (index : ℕ) (pair : List ℕ × ℤ) : Type 0 where
   key : ContextKey
-  inside : place < length keys
-  at_place : (d : ContextKey) → get_or keys place d ≡ key
+  inside : index < length keys
+  at_index : (d : ContextKey) → get_or keys index d ≡ key
   is : signed_pair key ≡ pair
 
-got : (keys : List ContextKey) (place : ℕ) (pair : List ℕ × ℤ) → slice_get (map signed_pair keys) place ≡ Some pair
-    → IsGot keys place pair
-got [] place pair e = absurd (none-some pair e)
+got : (keys : List ContextKey) (index : ℕ) (pair : List ℕ × ℤ) → slice_get (map signed_pair keys) index ≡ Some pair
+    → IsGot keys index pair
+got [] index pair e = absurd (none-some pair e)
 got (first ∷ keys) zero pair e = record {
   key = first;
   inside = omega arith;
-  at_place = λ d. refl;
+  at_index = λ d. refl;
   is = same_Some
       (signed_pair first) pair e;
 }
-got (first ∷ keys) (suc place) pair e =
-    let w = got keys place pair e in
+got (first ∷ keys) (suc index) pair e =
+    let w = got keys index pair e in
     let before = w.inside in
-    record { key = w.key; inside = omega (arith, before); at_place = w.at_place; is = w.is }
+    record { key = w.key; inside = omega (arith, before); at_index = w.at_index; is = w.is }
 
 module _ (keys : List ContextKey) (fit : All FitsContext keys) (once : AreKeysOnce keys)
     (sorted : IsSortedBy comes_before keys) where
-  not_empty : (place : ℕ) → IsEmptyKey (map signed_pair keys) place → ⊥
-  not_empty place empty =
-      let w = got keys place ([], empty.0) empty.1 in
-      let some = (subst FitsContext (w.at_place w.key) (All-get_or FitsContext keys place w.key w.inside fit)).some in
+  not_empty : (index : ℕ) → IsEmptyKey (map signed_pair keys) index → ⊥
+  not_empty index empty =
+      let w = got keys index ([], empty.0) empty.1 in
+      let some = (subst FitsContext (w.at_index w.key) (All-get_or FitsContext keys index w.key w.inside fit)).some in
       let none : length w.key.units.items ≡ 0 = ap (λ pair. length pair.0) w.is in
       omega (arith, some, none)
 
-  not_unsorted : (place : ℕ) → IsUnsorted (map signed_pair keys) place → ⊥
-  not_unsorted place fault =
+  not_unsorted : (index : ℕ) → IsUnsorted (map signed_pair keys) index → ⊥
+  not_unsorted index fault =
       let positive = fault.2 in
-      let one = got keys (place - 1) fault.0 fault.3 in
-      let two = got keys place fault.1 fault.4 in
+      let one = got keys (index - 1) fault.0 fault.3 in
+      let two = got keys index fault.1 fault.4 in
       let inside = two.inside in
-      let same : place - 1 + 1 ≡ place = omega (arith, positive) in
-      let rises = adjacent keys once sorted (place - 1) one.key (omega (arith, positive, inside)) in
-      let second = subst (λ n. Below (get_or keys (place - 1) one.key).units.items
+      let same : index - 1 + 1 ≡ index = omega (arith, positive) in
+      let rises = adjacent keys once sorted (index - 1) one.key (omega (arith, positive, inside)) in
+      let second = subst (λ n. Below (get_or keys (index - 1) one.key).units.items
       (get_or keys n one.key).units.items) same rises in
-      let first : (get_or keys (place - 1) one.key).units.items
-      ≡ fault.0.0 = ap (λ key. key.units.items) (one.at_place one.key) ∙ ap (λ pair. pair.0) one.is in
-      let last : (get_or keys place one.key).units.items ≡ fault.1.0 = ap (λ key. key.units.items)
-      (two.at_place one.key) ∙ ap (λ pair. pair.0) two.is in
+      let first : (get_or keys (index - 1) one.key).units.items
+      ≡ fault.0.0 = ap (λ key. key.units.items) (one.at_index one.key) ∙ ap (λ pair. pair.0) one.is in
+      let last : (get_or keys index one.key).units.items ≡ fault.1.0 = ap (λ key. key.units.items)
+      (two.at_index one.key) ∙ ap (λ pair. pair.0) two.is in
       fault.5 (subst (λ units. Below units fault.1.0) first (subst (λ units. Below
-      (get_or keys (place - 1) one.key).units.items units) last second))
+      (get_or keys (index - 1) one.key).units.items units) last second))
 
   pub no_fault : (pairs : List (List ℕ × ℤ)) → pairs ≡ map signed_pair keys → length keys ≤ 2 ^ 19
       → (error : WriteUnitsError)
       → Explains pairs error → error ≡ Memory
-  no_fault pairs are few (EmptyKey place) why =
-      absurd (not_empty place (subst (λ ps. IsEmptyKey ps place) are why.1))
-  no_fault pairs are few (NotSorted place) why =
-      absurd (not_unsorted place (subst (λ ps. IsUnsorted ps place) are why.2))
+  no_fault pairs are few (EmptyKey index) why =
+      absurd (not_empty index (subst (λ ps. IsEmptyKey ps index) are why.1))
+  no_fault pairs are few (NotSorted index) why =
+      absurd (not_unsorted index (subst (λ ps. IsUnsorted ps index) are why.2))
   no_fault pairs are few TooLarge why =
       let many = why.1 in
       let same = ap total are in

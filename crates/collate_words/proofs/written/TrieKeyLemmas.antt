@@ -56,14 +56,14 @@ total_short (first ∷ keys) fit =
 
 -- ---- Units
 
-no_node : (place : ℕ) (value : Option ℕ) (next : Option State) → IsNode [] place value next → ⊥
-no_node place value next (final p lead number at high found) = none-some lead at
-no_node place value next (valued p lead number state at high low found opens) = none-some lead at
-no_node place value next (bare p lead state at low opens) = none-some lead at
+no_node : (index : ℕ) (value : Option ℕ) (next : Option State) → IsNode [] index value next → ⊥
+no_node index value next (final p lead number at high found) = none-some lead at
+no_node index value next (valued p lead number state at high low found opens) = none-some lead at
+no_node index value next (bare p lead state at low opens) = none-some lead at
 
-no_key : (place : ℕ) (key : List ℕ) (number : ℤ) → MapsKey [] (at_node place) key number → ⊥
-no_key place key number (ends p value next node) = no_node p (Some value) next node
-no_key place key number (goes_on p value next k n node rest) = no_node p value (Some next) node
+no_key : (index : ℕ) (key : List ℕ) (number : ℤ) → MapsKey [] (at_node index) key number → ⊥
+no_key index key number (ends p value next node) = no_node p (Some value) next node
+no_key index key number (goes_on p value next k n node rest) = no_node p value (Some next) node
 
 some_units : (units : List ℕ) → (units ≡ [] → ⊥) → 0 < length units
 some_units [] some = absurd (some refl)

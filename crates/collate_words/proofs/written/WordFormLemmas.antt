@@ -7,7 +7,7 @@ use Rattle.icu_collator_types.specs.declared.elements.word_tags.Tag.TheVariants.
 use Rattle.icu_collator_types.specs.ElementWords.{has_tag, is_special, tag_number}
 use Rattle.icu_collator_core.specs.Pools.{Pools, default_word, index_of, lone_word, prefix_word, suffix_word, unprefixed_word, word_in_context}
 use Rattle.icu_collator_core.specs.WordForms.{has_form, is_list_of_words, is_other_own, is_own_word, states_element}
-use Rattle.icu_collator_core.specs.WordPlaces.{has_digit_word, has_items, has_list}
+use Rattle.icu_collator_core.specs.WordIndices.{has_digit_word, has_items, has_list}
 use Rattle.icu_collator_core.proofs.meaning.WordTagLemmas.{other_tag}
 
 -- ---- Tags

@@ -57,27 +57,27 @@ room_beside all texts done more pools larger room grown within =
       contexts = omega (arith, e, f);
     }
 
-module _ (besides : List Beside) (place : ℕ) (d : Beside) (inside : place < length besides) where
+module _ (besides : List Beside) (index : ℕ) (d : Beside) (inside : index < length besides) where
   -- the elements of what stands beside a character, one further
-  pub elements_more : element_sum (map said_beside (take place besides)) + length (get_or besides place d).elements.now
-      ≡ element_sum (map said_beside (take (place + 1) besides))
+  pub elements_more : element_sum (map said_beside (take index besides)) + length (get_or besides index d).elements.now
+      ≡ element_sum (map said_beside (take (index + 1) besides))
   elements_more =
-      let more = ap element_sum (map_more said_beside besides place d inside)
-      ∙ sum_by_push (λ (said : SaidBeside). length said.elements) (map said_beside (take place besides))
-      (said_beside (get_or besides place d)) in
+      let more = ap element_sum (map_more said_beside besides index d inside)
+      ∙ sum_by_push (λ (said : SaidBeside). length said.elements) (map said_beside (take index besides))
+      (said_beside (get_or besides index d)) in
       omega (arith, more)
 
-  pub elements_within : element_sum (map said_beside (take place besides)) + length (get_or besides place d).elements.now
+  pub elements_within : element_sum (map said_beside (take index besides)) + length (get_or besides index d).elements.now
       ≤ element_sum (map said_beside besides)
   elements_within =
       let more = elements_more in
-      let part = sum_by-take-le (λ (said : SaidBeside). length said.elements) (map said_beside besides) (place + 1) in
-      let same = ap element_sum (take-map said_beside (place + 1) besides) in
+      let part = sum_by-take-le (λ (said : SaidBeside). length said.elements) (map said_beside besides) (index + 1) in
+      let same = ap element_sum (take-map said_beside (index + 1) besides) in
       omega (arith, more, part, same)
 
   -- after one more of them the lists have grown for no more than all
-  pub grown_within : (pools larger largest : Pools) → GrowsFor (element_sum (map said_beside (take place besides))) 0 pools larger
-      → GrowsFor (length (get_or besides place d).elements.now) 0 larger largest
+  pub grown_within : (pools larger largest : Pools) → GrowsFor (element_sum (map said_beside (take index besides))) 0 pools larger
+      → GrowsFor (length (get_or besides index d).elements.now) 0 larger largest
       → GrowsFor (element_sum (map said_beside besides)) 0 pools largest
   grown_within pools larger largest first second =
       let a = first.ces in
@@ -117,14 +117,14 @@ pub keys_more : (pools larger : Pools) (backward : Bool) → Grows pools larger
 keys_more pools larger backward grows saids keys said key are is =
     zip_push (IsKeyOf larger backward) saids keys said key (keys_longer pools larger backward grows saids keys are) is
 
--- what is true of what stands beside a character, by its place
-pub beside_at : (most : ℕ) (besides : List Beside) (place : ℕ) (d : Beside) → place < length besides
+-- what is true of what stands beside a character, by its index
+pub beside_at : (most : ℕ) (besides : List Beside) (index : ℕ) (d : Beside) → index < length besides
     → All (IsBeside most) (map said_beside besides)
-    → IsBeside most (said_beside (get_or besides place d))
-beside_at most besides place d inside all =
+    → IsBeside most (said_beside (get_or besides index d))
+beside_at most besides index d inside all =
     let mapped = length-map besides said_beside in
-    subst (IsBeside most) (get_or-map said_beside besides place d (said_beside d) inside)
-    (all place (said_beside d) (omega (arith, inside, mapped)))
+    subst (IsBeside most) (get_or-map said_beside besides index d (said_beside d) inside)
+    (all index (said_beside d) (omega (arith, inside, mapped)))
 
 pub key_fits : (backward : Bool) (said : SaidBeside) (key : ContextKey) → IsBeside 7 said
     → key.units.items ≡ flat_map units_of (key_text backward said.characters) → key.word < 2 ^ 32 → FitsContext key
@@ -157,45 +157,45 @@ pub pushed_fit : (before after : List ContextKey) (key : ContextKey) → after �
 pushed_fit before after key is fit one = subst (All FitsContext) (sym is) (All-push FitsContext before key fit one)
 
 pub pushed_keys : (pools larger : Pools) (backward : Bool) → Grows pools larger
-    → (besides : List Beside) (place : ℕ) (d : Beside)
-    → place < length besides → (before after : List ContextKey) (key : ContextKey) → after ≡ before ++ key ∷ []
-    → AreKeysOf pools backward (map said_beside (take place besides)) (map pair_of before)
-    → IsKeyOf larger backward (said_beside (get_or besides place d)) (pair_of key)
-    → AreKeysOf larger backward (map said_beside (take (place + 1) besides)) (map pair_of after)
-pushed_keys pools larger backward grows besides place d inside before after key is are one =
+    → (besides : List Beside) (index : ℕ) (d : Beside)
+    → index < length besides → (before after : List ContextKey) (key : ContextKey) → after ≡ before ++ key ∷ []
+    → AreKeysOf pools backward (map said_beside (take index besides)) (map pair_of before)
+    → IsKeyOf larger backward (said_beside (get_or besides index d)) (pair_of key)
+    → AreKeysOf larger backward (map said_beside (take (index + 1) besides)) (map pair_of after)
+pushed_keys pools larger backward grows besides index d inside before after key is are one =
     let pushed : map pair_of after ≡ map pair_of before ++ pair_of key ∷ [] = ap (map pair_of) is
     ∙ map_push pair_of before key in
     subst (λ saids. AreKeysOf larger backward saids (map pair_of after))
-    (sym (map_more said_beside besides place d inside))
-    (subst (λ keys. AreKeysOf larger backward (map said_beside (take place besides) ++ said_beside
-    (get_or besides place d) ∷ []) keys) (sym pushed)
-    (keys_more pools larger backward grows (map said_beside (take place besides)) (map pair_of before)
-    (said_beside (get_or besides place d)) (pair_of key) are one))
+    (sym (map_more said_beside besides index d inside))
+    (subst (λ keys. AreKeysOf larger backward (map said_beside (take index besides) ++ said_beside
+    (get_or besides index d) ∷ []) keys) (sym pushed)
+    (keys_more pools larger backward grows (map said_beside (take index besides)) (map pair_of before)
+    (said_beside (get_or besides index d)) (pair_of key) are one))
 
 -- ---- A context at the end
 
-pub context_appended : (contexts longer : List ℕ) (place default : ℕ) (units : List ℕ) (keys : List (List ℕ × ℕ))
-    → place ≡ length contexts
+pub context_appended : (contexts longer : List ℕ) (index default : ℕ) (units : List ℕ) (keys : List (List ℕ × ℕ))
+    → index ≡ length contexts
     → longer ≡ contexts ++ (default / 2 ^ 16 ∷ default % 2 ^ 16 ∷ units) → HasKeys units keys
-    → IsContext longer place default keys
-context_appended contexts longer place default units keys at_end is has =
+    → IsContext longer index default keys
+context_appended contexts longer index default units keys at_end is has =
     let written = default / 2 ^ 16 ∷ default % 2 ^ 16 ∷ units in
     let some = has.some in
     let both = length-append contexts written in
     let count = ap length is in
-    let first : slice_index longer place ≡ default / 2 ^ 16 =
-    ap (λ (xs : List ℕ). slice_index xs place) is ∙ ap (λ (n : ℕ). slice_index (contexts ++ written) n)
+    let first : slice_index longer index ≡ default / 2 ^ 16 =
+    ap (λ (xs : List ℕ). slice_index xs index) is ∙ ap (λ (n : ℕ). slice_index (contexts ++ written) n)
     (at_end ∙ (omega arith))
     ∙ get_or-append-add contexts written 0 0 in
-    let second : slice_index longer (place + 1) ≡ default % 2 ^ 16 =
-    ap (λ (xs : List ℕ). slice_index xs (place + 1)) is ∙ ap (λ (n : ℕ). slice_index (contexts ++ written)
+    let second : slice_index longer (index + 1) ≡ default % 2 ^ 16 =
+    ap (λ (xs : List ℕ). slice_index xs (index + 1)) is ∙ ap (λ (n : ℕ). slice_index (contexts ++ written)
     (n + 1)) at_end
     ∙ get_or-append-add contexts written 1 0 in
     let split : longer ≡ (contexts ++ (default / 2 ^ 16 ∷ default % 2 ^ 16 ∷ [])) ++ units =
     is ∙ sym (append_assoc contexts (default / 2 ^ 16 ∷ default % 2 ^ 16 ∷ []) units) in
     let front = length-append contexts (default / 2 ^ 16 ∷ default % 2 ^ 16 ∷ []) in
-    let trie : trie_of longer place ≡ units =
-    ap (drop (place + 2)) split ∙ drop_at (contexts ++ (default / 2 ^ 16 ∷ default % 2 ^ 16 ∷ [])) units (place + 2)
+    let trie : trie_of longer index ≡ units =
+    ap (drop (index + 2)) split ∙ drop_at (contexts ++ (default / 2 ^ 16 ∷ default % 2 ^ 16 ∷ [])) units (index + 2)
     (omega (arith, front, at_end)) in
     record {
       inside = omega (arith, some, both, count, at_end);
@@ -215,19 +215,19 @@ pub suffixes_none : (pools : Pools) (own : ℕ) (besides : List Beside) (flags :
 suffixes_none pools own [] flags none alone offset is = own_says pools own alone offset flags is
 suffixes_none pools own (first ∷ besides) flags none alone offset is = absurd (omega (arith, none))
 
-pub suffixes_written : (old middle new : Pools) (place word own : ℕ) (besides : List Beside) (flags : SuffixFlags)
+pub suffixes_written : (old middle new : Pools) (index word own : ℕ) (besides : List Beside) (flags : SuffixFlags)
     (keys : List (List ℕ × ℕ))
     → Grows old new → Grows middle new → word < 2 ^ 32
-    → HasFields word place 0xc9 flags.all_begin flags.one_ends flags.one_holds
-    → AreBeside 7 (map said_beside besides) → 0 < length besides → IsContext new.contexts place own keys
+    → HasFields word index 0xc9 flags.all_begin flags.one_ends flags.one_holds
+    → AreBeside 7 (map said_beside besides) → 0 < length besides → IsContext new.contexts index own keys
     → AreKeysOf middle false (map said_beside besides) keys
     → (alone : Option (List Element)) (offset : Option ℕ) → IsOwnWord old own alone offset
     → SaysOf new word (saying_behind alone offset (map said_beside besides) flags)
-suffixes_written old middle new place word own besides flags keys grows grows_too small fields beside some context are
+suffixes_written old middle new index word own besides flags keys grows grows_too small fields beside some context are
     alone offset is =
     contraction_says new word own alone offset (map said_beside besides) flags keys small
     (record {
-      place_is = refl;
+      index_is = refl;
       low_is = fields.low_is;
       first = fields.first;
       second = fields.second;
@@ -235,7 +235,7 @@ suffixes_written old middle new place word own besides flags keys grows grows_to
           fields.third;
     })
     (IsOwnWord-larger old new grows own alone offset is) beside (none_mapped besides some)
-    (subst (λ p. IsContext new.contexts p own keys) (sym fields.place_is) context)
+    (subst (λ p. IsContext new.contexts p own keys) (sym fields.index_is) context)
     (keys_longer middle new false grows_too (map said_beside besides) keys are)
 
 pub prefixes_none : (pools : Pools) (behind : ℕ) (besides : List Beside) → length besides ≡ 0
@@ -245,18 +245,18 @@ prefixes_none pools behind [] none saying says before = subst
     (λ saids. SaysOf pools behind (saying_before saying saids)) before says
 prefixes_none pools behind (first ∷ besides) none saying says before = absurd (omega (arith, none))
 
-pub prefixes_written : AreKeptLonger → (old middle new : Pools) (place word behind : ℕ) (besides : List Beside)
+pub prefixes_written : AreKeptLonger → (old middle new : Pools) (index word behind : ℕ) (besides : List Beside)
     (keys : List (List ℕ × ℕ))
-    → Grows old new → Grows middle new → word < 2 ^ 32 → index_of word ≡ place → word % 2 ^ 8 ≡ 0xc8
-    → AreBeside 3 (map said_beside besides) → 0 < length besides → IsContext new.contexts place behind keys
+    → Grows old new → Grows middle new → word < 2 ^ 32 → index_of word ≡ index → word % 2 ^ 8 ≡ 0xc8
+    → AreBeside 3 (map said_beside besides) → 0 < length besides → IsContext new.contexts index behind keys
     → AreKeysOf middle true (map said_beside besides) keys
     → (saying : Saying) → SaysOf old behind saying → saying.prefixes ≡ [] → saying.digit ≡ None
     → SaysOf new word (saying_before saying (map said_beside besides))
-prefixes_written kept old middle new place word behind besides keys grows grows_too small at_place low beside some
+prefixes_written kept old middle new index word behind besides keys grows grows_too small at_index low beside some
     context are saying says before digit =
     prefix_says new word behind saying (map said_beside besides) keys small low
     (says_longer kept old new grows behind saying says) before digit beside (none_mapped besides some)
-    (subst (λ p. IsContext new.contexts p behind keys) (sym at_place) context)
+    (subst (λ p. IsContext new.contexts p behind keys) (sym at_index) context)
     (keys_longer middle new true grows_too (map said_beside besides) keys are)
 
 -- ---- Tests of the code
@@ -274,7 +274,7 @@ own_few : (own : Option (List Element)) → own_room own ≤ 1 + own_count own
 own_few None = omega arith
 own_few (Some es) = omega arith
 
--- the room that is left for suffixes behind what a character has alone
+-- the room that is left for suffixes after what a character has alone
 pub room_behind : (saying : Saying) (suffixes : List Beside) (pools larger : Pools)
     → HasRoom pools (element_count saying) (text_count saying) → GrowsFor (own_room saying.own) 0 pools larger
     → map said_beside suffixes ≡ saying.suffixes

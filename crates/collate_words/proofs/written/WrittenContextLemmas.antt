@@ -18,7 +18,7 @@ use Rattle.icu_collator_core.specs.ContextRules.{characters_of_units}
 use Rattle.icu_collator_core.specs.Pools.{Pools, elements_of_word, index_of, trie_of, word_in_context}
 use Rattle.icu_collator_core.specs.PrefixFaults.{HasValue}
 use Rattle.icu_collator_core.specs.WordForms.{AreReadable, ValuesPass, is_own_word}
-use Rattle.icu_collator_core.specs.WordPlaces.{has_items}
+use Rattle.icu_collator_core.specs.WordIndices.{has_items}
 use Rattle.collate_words.specs.ContextKeys.{AreKeysOf, IsContext, IsKeyOf, key_text}
 use Rattle.collate_words.specs.Contexts.{AreKeys}
 use Rattle.collate_words.specs.Fits.{AreBeside, IsBeside}

@@ -22,18 +22,18 @@ small_part_step units unit (suc halvings) branch =
     ap (λ fewer. if leb branch.count 5 then Some branch else after (half_of units unit branch) (λ half. small_part units unit fewer half)) (pred-suc halvings)
     ∙ ap (λ more. if leb branch.count 5 then Some branch else more) (if_suc halvings None (after (half_of units unit branch) (λ half. small_part units unit (suc halvings - 1) half)))
 
-pub target_in_step : (units : List ℕ) (unit entries place : ℕ) →
-    target_in units unit entries place ≡
-    (if entries == 0 then after (slice_get units place) (λ last. if last == unit then Some (Node (place + 1)) else None)
-    else after (entry_at units place) (λ entry.
+pub target_in_step : (units : List ℕ) (unit entries index : ℕ) →
+    target_in units unit entries index ≡
+    (if entries == 0 then after (slice_get units index) (λ last. if last == unit then Some (Node (index + 1)) else None)
+    else after (entry_at units index) (λ entry.
     if entry.unit == unit then entry_target units entry
     else target_in units unit (entries - 1) entry.number.end))
 unfolding target_in
-target_in_step units unit zero place = refl
-target_in_step units unit (suc entries) place =
-    ap (λ fewer. after (entry_at units place) (λ entry. if entry.unit == unit then entry_target units entry else target_in units unit fewer entry.number.end)) (pred-suc entries)
-    ∙ if_suc entries (after (slice_get units place) (λ last. if last == unit then Some (Node (place + 1)) else None))
-    (after (entry_at units place) (λ entry. if entry.unit == unit then entry_target units entry else target_in units unit (suc entries - 1) entry.number.end))
+target_in_step units unit zero index = refl
+target_in_step units unit (suc entries) index =
+    ap (λ fewer. after (entry_at units index) (λ entry. if entry.unit == unit then entry_target units entry else target_in units unit fewer entry.number.end)) (pred-suc entries)
+    ∙ if_suc entries (after (slice_get units index) (λ last. if last == unit then Some (Node (index + 1)) else None))
+    (after (entry_at units index) (λ entry. if entry.unit == unit then entry_target units entry else target_in units unit (suc entries - 1) entry.number.end))
 
 pub if_not_leb : {A : Type 0} (m n : ℕ) (a b : A) → n < m → (if leb m n then a else b) ≡ b
 if_not_leb m n a b h = grind arith
@@ -55,46 +55,46 @@ small_part-half units unit halvings branch half big more is =
     ∙ if_zero halvings None (after (half_of units unit branch) (λ half. small_part units unit (halvings - 1) half)) more
     ∙ ap (λ found. after found (λ half. small_part units unit (halvings - 1) half)) is
 
-module _ (units : List ℕ) (unit entries place : ℕ) (entry : Entry) (more : entries ≡ 0 → ⊥) (is : entry_at units place ≡ Some entry) where
-  entered : target_in units unit entries place ≡ (if entry.unit == unit then entry_target units entry else target_in units unit (entries - 1) entry.number.end)
+module _ (units : List ℕ) (unit entries index : ℕ) (entry : Entry) (more : entries ≡ 0 → ⊥) (is : entry_at units index ≡ Some entry) where
+  entered : target_in units unit entries index ≡ (if entry.unit == unit then entry_target units entry else target_in units unit (entries - 1) entry.number.end)
   entered =
-      target_in_step units unit entries place
-      ∙ if_zero entries (after (slice_get units place) (λ last. if last == unit then Some (Node (place + 1)) else None))
-      (after (entry_at units place) (λ entry. if entry.unit == unit then entry_target units entry else target_in units unit (entries - 1) entry.number.end)) more
+      target_in_step units unit entries index
+      ∙ if_zero entries (after (slice_get units index) (λ last. if last == unit then Some (Node (index + 1)) else None))
+      (after (entry_at units index) (λ entry. if entry.unit == unit then entry_target units entry else target_in units unit (entries - 1) entry.number.end)) more
       ∙ ap (λ found. after found (λ entry. if entry.unit == unit then entry_target units entry else target_in units unit (entries - 1) entry.number.end)) is
 
-  pub target_in-found : entry.unit ≡ unit → target_in units unit entries place ≡ entry_target units entry
+  pub target_in-found : entry.unit ≡ unit → target_in units unit entries index ≡ entry_target units entry
   target_in-found same = entered ∙ if_eq entry.unit unit (entry_target units entry) (target_in units unit (entries - 1) entry.number.end) same
 
-  pub target_in-on : (entry.unit ≡ unit → ⊥) → target_in units unit entries place ≡ target_in units unit (entries - 1) entry.number.end
+  pub target_in-on : (entry.unit ≡ unit → ⊥) → target_in units unit entries index ≡ target_in units unit (entries - 1) entry.number.end
   target_in-on other = entered ∙ if_not_eq entry.unit unit (entry_target units entry) (target_in units unit (entries - 1) entry.number.end) other
 
-pub target_in-none : (units : List ℕ) (unit entries place : ℕ) → 0 < entries → entry_at units place ≡ None → target_in units unit entries place ≡ None
-target_in-none units unit entries place more is =
-    target_in_step units unit entries place
-    ∙ if_zero entries (after (slice_get units place) (λ last. if last == unit then Some (Node (place + 1)) else None))
-    (after (entry_at units place) (λ entry. if entry.unit == unit then entry_target units entry else target_in units unit (entries - 1) entry.number.end)) (λ none. omega (arith, none, more))
+pub target_in-none : (units : List ℕ) (unit entries index : ℕ) → 0 < entries → entry_at units index ≡ None → target_in units unit entries index ≡ None
+target_in-none units unit entries index more is =
+    target_in_step units unit entries index
+    ∙ if_zero entries (after (slice_get units index) (λ last. if last == unit then Some (Node (index + 1)) else None))
+    (after (entry_at units index) (λ entry. if entry.unit == unit then entry_target units entry else target_in units unit (entries - 1) entry.number.end)) (λ none. omega (arith, none, more))
     ∙ ap (λ found. after found (λ entry. if entry.unit == unit then entry_target units entry else target_in units unit (entries - 1) entry.number.end)) is
 
-target_in-last : (units : List ℕ) (unit entries place : ℕ) → entries ≤ 0 →
-    target_in units unit entries place ≡ after (slice_get units place) (λ last. if last == unit then Some (Node (place + 1)) else None)
+target_in-last : (units : List ℕ) (unit entries index : ℕ) → entries ≤ 0 →
+    target_in units unit entries index ≡ after (slice_get units index) (λ last. if last == unit then Some (Node (index + 1)) else None)
 unfolding target_in
-target_in-last units unit zero place none = refl
-target_in-last units unit (suc entries) place none = absurd (omega (arith, none))
+target_in-last units unit zero index none = refl
+target_in-last units unit (suc entries) index none = absurd (omega (arith, none))
 
-pub target_in-past : (units : List ℕ) (unit entries place : ℕ) → entries ≤ 0 → slice_get units place ≡ None → target_in units unit entries place ≡ None
-target_in-past units unit entries place none is =
-    target_in-last units unit entries place none ∙ ap (λ found. after found (λ last. if last == unit then Some (Node (place + 1)) else None)) is
+pub target_in-past : (units : List ℕ) (unit entries index : ℕ) → entries ≤ 0 → slice_get units index ≡ None → target_in units unit entries index ≡ None
+target_in-past units unit entries index none is =
+    target_in-last units unit entries index none ∙ ap (λ found. after found (λ last. if last == unit then Some (Node (index + 1)) else None)) is
 
-pub target_in-end : (units : List ℕ) (unit entries place last : ℕ) → entries ≤ 0 → slice_get units place ≡ Some last → last ≡ unit → target_in units unit entries place ≡ Some (Node (place + 1))
-target_in-end units unit entries place last none is same =
-    target_in-last units unit entries place none ∙ ap (λ found. after found (λ last. if last == unit then Some (Node (place + 1)) else None)) is
-    ∙ if_eq last unit (Some (Node (place + 1))) None same
+pub target_in-end : (units : List ℕ) (unit entries index last : ℕ) → entries ≤ 0 → slice_get units index ≡ Some last → last ≡ unit → target_in units unit entries index ≡ Some (Node (index + 1))
+target_in-end units unit entries index last none is same =
+    target_in-last units unit entries index none ∙ ap (λ found. after found (λ last. if last == unit then Some (Node (index + 1)) else None)) is
+    ∙ if_eq last unit (Some (Node (index + 1))) None same
 
-pub target_in-other : (units : List ℕ) (unit entries place last : ℕ) → entries ≤ 0 → slice_get units place ≡ Some last → (last ≡ unit → ⊥) → target_in units unit entries place ≡ None
-target_in-other units unit entries place last none is other =
-    target_in-last units unit entries place none ∙ ap (λ found. after found (λ last. if last == unit then Some (Node (place + 1)) else None)) is
-    ∙ if_not_eq last unit (Some (Node (place + 1))) None other
+pub target_in-other : (units : List ℕ) (unit entries index last : ℕ) → entries ≤ 0 → slice_get units index ≡ Some last → (last ≡ unit → ⊥) → target_in units unit entries index ≡ None
+target_in-other units unit entries index last none is other =
+    target_in-last units unit entries index none ∙ ap (λ found. after found (λ last. if last == unit then Some (Node (index + 1)) else None)) is
+    ∙ if_not_eq last unit (Some (Node (index + 1))) None other
 
 pub if_leb : {A : Type 0} (m n : ℕ) (a b : A) → m ≤ n → (if leb m n then a else b) ≡ a
 if_leb m n a b h = grind arith

@@ -57,33 +57,33 @@ calm-if : (b : Bool) (x y : Option Arrival) → IsCalm x → IsCalm y → IsCalm
 calm-if true x y h k = h
 calm-if false x y h k = k
 
-calm-node : (units : List ℕ) (place : ℕ) → IsCalm (arrive_at units place)
-calm-node units place = calm-after (slice_get units place) (λ lead.
-    if leb 0x8000 lead then after (final_number units (lead - 0x8000) (place + 1)) (λ number. Some (ended number.value))
-    else (if leb 0x40 lead then after (intermediate_number units lead (place + 1)) (λ number.
+calm-node : (units : List ℕ) (index : ℕ) → IsCalm (arrive_at units index)
+calm-node units index = calm-after (slice_get units index) (λ lead.
+    if leb 0x8000 lead then after (final_number units (lead - 0x8000) (index + 1)) (λ number. Some (ended number.value))
+    else (if leb 0x40 lead then after (intermediate_number units lead (index + 1)) (λ number.
     after (opened units (lead % 0x40) number.end) (λ next. Some (passed number.value next)))
-    else after (opened units lead (place + 1)) (λ next. Some (begun next))))
+    else after (opened units lead (index + 1)) (λ next. Some (begun next))))
     (λ lead. calm-if (leb 0x8000 lead) _ _
-    (calm-after (final_number units (lead - 0x8000) (place + 1)) (λ number. Some (ended number.value)) (λ number last. refl))
+    (calm-after (final_number units (lead - 0x8000) (index + 1)) (λ number. Some (ended number.value)) (λ number last. refl))
     (calm-if (leb 0x40 lead) _ _
-    (calm-after (intermediate_number units lead (place + 1)) (λ number. after (opened units (lead % 0x40) number.end) (λ next. Some (passed number.value next)))
+    (calm-after (intermediate_number units lead (index + 1)) (λ number. after (opened units (lead % 0x40) number.end) (λ next. Some (passed number.value next)))
     (λ number. calm-after (opened units (lead % 0x40) number.end) (λ next. Some (passed number.value next)) (λ next last. absurd last)))
-    (calm-after (opened units lead (place + 1)) (λ next. Some (begun next)) (λ next last. absurd last))))
+    (calm-after (opened units lead (index + 1)) (λ next. Some (begun next)) (λ next last. absurd last))))
 
 calm-reached : (units : List ℕ) (target : Target) → IsCalm (reached units target)
 calm-reached units (Value value) = λ last. refl
-calm-reached units (Node place) = calm-node units place
+calm-reached units (Node index) = calm-node units index
 
 calm-step : (units : List ℕ) (next : State) (unit : ℕ) → IsCalm (step units next unit)
 calm-step units (state.Stopped) unit = tt
-calm-step units (state.Match run) unit = calm-after (slice_get units run.place) (λ expected.
-    if expected == unit then (if leb run.left 1 then arrive_at units (run.place + 1)
-    else Some (begun (state.Match (record { left = run.left - 1; place = run.place + 1 }))))
+calm-step units (state.Match run) unit = calm-after (slice_get units run.index) (λ expected.
+    if expected == unit then (if leb run.left 1 then arrive_at units (run.index + 1)
+    else Some (begun (state.Match (record { left = run.left - 1; index = run.index + 1 }))))
     else None)
-    (λ expected. calm-if (expected == unit) _ _ (calm-if (leb run.left 1) _ _ (calm-node units (run.place + 1)) (λ last. absurd last)) tt)
+    (λ expected. calm-if (expected == unit) _ _ (calm-if (leb run.left 1) _ _ (calm-node units (run.index + 1)) (λ last. absurd last)) tt)
 calm-step units (state.Branch branch) unit = calm-after (small_part units unit branch.count branch) (λ part.
-    after (target_in units unit (part.count - 1) part.place) (λ target. reached units target))
-    (λ part. calm-after (target_in units unit (part.count - 1) part.place) (λ target. reached units target) (λ target. calm-reached units target))
+    after (target_in units unit (part.count - 1) part.index) (λ target. reached units target))
+    (λ part. calm-after (target_in units unit (part.count - 1) part.index) (λ target. reached units target) (λ target. calm-reached units target))
 
 calm-stops : (o : Option Arrival) → IsCalm o → IsLast (answer_of o) → state_of o ≡ state.Stopped
 calm-stops None calm last = refl

@@ -17,16 +17,16 @@ use Rattle.icu_char16trie.proofs.Cursors.BranchLemmas.{found_in, leads_sound}
 use Rattle.icu_char16trie.proofs.Cursors.StepLemmas.{behind_key, arrived, node-is, branched-is, run_at, match_at}
 
 has-key : (units : List ℕ) {spot : Spot} → IsWhole units spot → (key : List ℕ) × (number : ℤ) × MapsKey units spot key number
-has-key units (whole_end place value node) = ([], cast_signed w32 value, ends place value None node)
-has-key units (whole_node place value next node rest) =
-    let found = has-key units rest in (found.0, found.1, goes_on place value next found.0 found.1 node found.2)
+has-key units (whole_end index value node) = ([], cast_signed w32 value, ends index value None node)
+has-key units (whole_node index value next node rest) =
+    let found = has-key units rest in (found.0, found.1, goes_on index value next found.0 found.1 node found.2)
 has-key units (whole_run run unit e more rest) =
     let found = has-key units rest in (unit ∷ found.0, found.1, run_on run unit found.0 found.1 e more found.2)
 has-key units (whole_run_end run unit e few rest) =
     let found = has-key units rest in (unit ∷ found.0, found.1, run_out run unit found.0 found.1 e few found.2)
 has-key units (whole_branch branch unit (Value value) leads each) = (unit ∷ [], cast_signed w32 value, branch_value branch unit value leads)
-has-key units (whole_branch branch unit (Node place) leads each) =
-    let found = has-key units (each unit place leads) in (unit ∷ found.0, found.1, branch_node branch unit place found.0 found.1 leads found.2)
+has-key units (whole_branch branch unit (Node index) leads each) =
+    let found = has-key units (each unit index leads) in (unit ∷ found.0, found.1, branch_node branch unit index found.0 found.1 leads found.2)
 
 some-unit : (units : List ℕ) (next : State) (key : List ℕ) (number : ℤ) → MapsKey units (at_state next) key number
     → (unit : ℕ) × (rest : List ℕ) × (number : ℤ) × MapsKey units (at_state next) (unit ∷ rest) number
@@ -49,30 +49,30 @@ stays-arrived : (units : List ℕ) (value : Option ℕ) (next : State) → IsWho
 stays-arrived units None next rest = inr rest
 stays-arrived units (Some value) next rest = inr rest
 
-stays-node : (units : List ℕ) {place : ℕ} → IsWhole units (at_node place) → StaysWhole units (arrive_at units place)
-stays-node units (whole_end place value node) = subst (λ o. StaysWhole units o) (sym (node-is units node)) (inl tt)
-stays-node units (whole_node place value next node rest) = subst (λ o. StaysWhole units o) (sym (node-is units node)) (stays-arrived units value next rest)
+stays-node : (units : List ℕ) {index : ℕ} → IsWhole units (at_node index) → StaysWhole units (arrive_at units index)
+stays-node units (whole_end index value node) = subst (λ o. StaysWhole units o) (sym (node-is units node)) (inl tt)
+stays-node units (whole_node index value next node rest) = subst (λ o. StaysWhole units o) (sym (node-is units node)) (stays-arrived units value next rest)
 
-stays-run : (units : List ℕ) (run : Match) (unit expected : ℕ) → slice_get units run.place ≡ Some expected → StaysWhole units (run_at units run)
+stays-run : (units : List ℕ) (run : Match) (unit expected : ℕ) → slice_get units run.index ≡ Some expected → StaysWhole units (run_at units run)
     → StaysWhole units (matched units run unit)
 stays-run units run unit expected e rest =
     subst (λ o. StaysWhole units o) (sym (ap (λ found. after found (match_at units run unit)) e))
     (stays-if units (expected == unit) (run_at units run) None rest tt)
 
 stays-target : (units : List ℕ) (branch : Branch) (unit : ℕ) (target : Target) → Leads units branch unit target
-    → ((other place : ℕ) → Leads units branch other (Node place) → IsWhole units (at_node place)) → StaysWhole units (reached units target)
+    → ((other index : ℕ) → Leads units branch other (Node index) → IsWhole units (at_node index)) → StaysWhole units (reached units target)
 stays-target units branch unit (Value value) leads each = inl tt
-stays-target units branch unit (Node place) leads each = stays-node units (each unit place leads)
+stays-target units branch unit (Node index) leads each = stays-node units (each unit index leads)
 
 stays-step : (units : List ℕ) {next : State} (unit : ℕ) → IsWhole units (at_state next) → StaysWhole units (step units next unit)
 stays-step units unit (whole_run run expected e more rest) =
-    let go : State = state.Match (record { left = run.left - 1; place = run.place + 1 }) in
+    let go : State = state.Match (record { left = run.left - 1; index = run.index + 1 }) in
     stays-run units run unit expected e
-    (subst (λ o. StaysWhole units o) (sym (if_not_leb run.left 1 (arrive_at units (run.place + 1)) (Some (begun go)) more)) (inr rest))
+    (subst (λ o. StaysWhole units o) (sym (if_not_leb run.left 1 (arrive_at units (run.index + 1)) (Some (begun go)) more)) (inr rest))
 stays-step units unit (whole_run_end run expected e few rest) =
-    let go : State = state.Match (record { left = run.left - 1; place = run.place + 1 }) in
+    let go : State = state.Match (record { left = run.left - 1; index = run.index + 1 }) in
     stays-run units run unit expected e
-    (subst (λ o. StaysWhole units o) (sym (if_leb run.left 1 (arrive_at units (run.place + 1)) (Some (begun go)) few)) (stays-node units rest))
+    (subst (λ o. StaysWhole units o) (sym (if_leb run.left 1 (arrive_at units (run.index + 1)) (Some (begun go)) few)) (stays-node units rest))
 stays-step units unit (whole_branch branch first target leads each) =
     subst (λ o. StaysWhole units o) (sym (branched-is units branch unit))
     (stays-after units (after (small_part units unit branch.count branch) (found_in units unit)) (reached units)

@@ -24,33 +24,33 @@ use Rattle.icu_char16trie.specs.UnitPairs.{Has}
 use Rattle.icu_char16trie.proofs.Grammar.ListingLemmas.{Pair, behind_unit, with_value, listing, has-left, has-right, has-behind}
 
 -- a node has one value, and one thing follows it
-pub node_unique : (units : List ℕ) {place : ℕ} {value other : Option ℕ} {next following : Option State} → IsNode units place value next → IsNode units place other following
+pub node_unique : (units : List ℕ) {index : ℕ} {value other : Option ℕ} {next following : Option State} → IsNode units index value next → IsNode units index other following
     → (value ≡ other) × (next ≡ following)
-node_unique units (final place lead number e high reads) (final there lead' number' e' high' reads') =
+node_unique units (final index lead number e high reads) (final there lead' number' e' high' reads') =
     let same : lead ≡ lead' = some-same lead lead' (sym e ∙ e') in
-    let number-same : number ≡ number' = some-same number number' (sym reads ∙ ap (λ lead. final_number units (lead - 0x8000) (place + 1)) same ∙ reads') in
+    let number-same : number ≡ number' = some-same number number' (sym reads ∙ ap (λ lead. final_number units (lead - 0x8000) (index + 1)) same ∙ reads') in
     (ap (λ (n : Number). Some n.value) number-same, refl)
-node_unique units (final place lead number e high reads) (valued there lead' number' next' e' low' high' reads' opens') =
+node_unique units (final index lead number e high reads) (valued there lead' number' next' e' low' high' reads' opens') =
     let same : lead ≡ lead' = some-same lead lead' (sym e ∙ e') in absurd (omega (arith, same, high, low'))
-node_unique units (final place lead number e high reads) (bare there lead' next' e' low' opens') =
+node_unique units (final index lead number e high reads) (bare there lead' next' e' low' opens') =
     let same : lead ≡ lead' = some-same lead lead' (sym e ∙ e') in absurd (omega (arith, same, high, low'))
-node_unique units (valued place lead number next e low high reads opens) (final there lead' number' e' high' reads') =
+node_unique units (valued index lead number next e low high reads opens) (final there lead' number' e' high' reads') =
     let same : lead ≡ lead' = some-same lead lead' (sym e ∙ e') in absurd (omega (arith, same, low, high'))
-node_unique units (valued place lead number next e low high reads opens) (valued there lead' number' next' e' low' high' reads' opens') =
+node_unique units (valued index lead number next e low high reads opens) (valued there lead' number' next' e' low' high' reads' opens') =
     let same : lead ≡ lead' = some-same lead lead' (sym e ∙ e') in
-    let number-same : number ≡ number' = some-same number number' (sym reads ∙ ap (λ lead. intermediate_number units lead (place + 1)) same ∙ reads') in (
+    let number-same : number ≡ number' = some-same number number' (sym reads ∙ ap (λ lead. intermediate_number units lead (index + 1)) same ∙ reads') in (
       ap (λ (n : Number). Some n.value) number-same,
       sym opens ∙ ap (λ lead. opened units (lead % 0x40) number.end) same ∙ ap (λ (n : Number). opened units (lead' % 0x40) n.end) number-same ∙ opens',
     )
-node_unique units (valued place lead number next e low high reads opens) (bare there lead' next' e' low' opens') =
+node_unique units (valued index lead number next e low high reads opens) (bare there lead' next' e' low' opens') =
     let same : lead ≡ lead' = some-same lead lead' (sym e ∙ e') in absurd (omega (arith, same, high, low'))
-node_unique units (bare place lead next e low opens) (final there lead' number' e' high' reads') =
+node_unique units (bare index lead next e low opens) (final there lead' number' e' high' reads') =
     let same : lead ≡ lead' = some-same lead lead' (sym e ∙ e') in absurd (omega (arith, same, low, high'))
-node_unique units (bare place lead next e low opens) (valued there lead' number' next' e' low' high' reads' opens') =
+node_unique units (bare index lead next e low opens) (valued there lead' number' next' e' low' high' reads' opens') =
     let same : lead ≡ lead' = some-same lead lead' (sym e ∙ e') in absurd (omega (arith, same, low, high'))
-node_unique units (bare place lead next e low opens) (bare there lead' next' e' low' opens') =
+node_unique units (bare index lead next e low opens) (bare there lead' next' e' low' opens') =
     let same : lead ≡ lead' = some-same lead lead' (sym e ∙ e') in
-    (refl, sym opens ∙ ap (λ lead. opened units lead (place + 1)) same ∙ opens')
+    (refl, sym opens ∙ ap (λ lead. opened units lead (index + 1)) same ∙ opens')
 
 -- a key at a node ends there, or goes on after it
 abbrev AtNode : List ℕ → Option ℕ → Option State → List ℕ → ℤ → Type 0
@@ -58,36 +58,36 @@ AtNode units value next key number =
     (([] ≡ key) × (v : ℕ) × (value ≡ Some v) × (cast_signed w32 v ≡ number))
     ⊎ ((following : State) × (next ≡ Some following) × MapsKey units (at_state following) key number)
 
-at-node : (units : List ℕ) {place : ℕ} {value : Option ℕ} {next : Option State} {key : List ℕ} {number : ℤ} → MapsKey units (at_node place) key number
-    → IsNode units place value next → AtNode units value next key number
-at-node units (ends place v following node) is = inl (refl, v, (node_unique units is node).0, refl)
-at-node units (goes_on place v following key number node rest) is = inr (following, (node_unique units is node).1, rest)
+at-node : (units : List ℕ) {index : ℕ} {value : Option ℕ} {next : Option State} {key : List ℕ} {number : ℤ} → MapsKey units (at_node index) key number
+    → IsNode units index value next → AtNode units value next key number
+at-node units (ends index v following node) is = inl (refl, v, (node_unique units is node).0, refl)
+at-node units (goes_on index v following key number node rest) is = inr (following, (node_unique units is node).1, rest)
 
-module _ (units : List ℕ) (run : Match) (unit : ℕ) (is : slice_get units run.place ≡ Some unit) where
+module _ (units : List ℕ) (run : Match) (unit : ℕ) (is : slice_get units run.index ≡ Some unit) where
   run-goes : {key : List ℕ} {number : ℤ} → MapsKey units (at_state (state.Match run)) key number → 1 < run.left
-      → (rest : List ℕ) × (key ≡ unit ∷ rest) × MapsKey units (at_state (state.Match (record { left = run.left - 1; place = run.place + 1 }))) rest number
+      → (rest : List ℕ) × (key ≡ unit ∷ rest) × MapsKey units (at_state (state.Match (record { left = run.left - 1; index = run.index + 1 }))) rest number
   run-goes (run_on r u key number e more rest) many = (key, ap (λ u. u ∷ key) (some-same u unit (sym e ∙ is)), rest)
   run-goes (run_out r u key number e few rest) many = absurd (omega (arith, few, many))
 
   run-ends : {key : List ℕ} {number : ℤ} → MapsKey units (at_state (state.Match run)) key number → run.left ≤ 1
-      → (rest : List ℕ) × (key ≡ unit ∷ rest) × MapsKey units (at_node (run.place + 1)) rest number
+      → (rest : List ℕ) × (key ≡ unit ∷ rest) × MapsKey units (at_node (run.index + 1)) rest number
   run-ends (run_on r u key number e more rest) one = absurd (omega (arith, more, one))
   run-ends (run_out r u key number e few rest) one = (key, ap (λ u. u ∷ key) (some-same u unit (sym e ∙ is)), rest)
 
 -- what a unit leads to is listed after it
 abbrev Covers : List ℕ → List Pair → ℕ → Target → Type 0
 Covers units pairs unit (Value value) = Has pairs (unit ∷ []) (cast_signed w32 value)
-Covers units pairs unit (Node place) = (key : List ℕ) (number : ℤ) → MapsKey units (at_node place) key number → Has pairs (unit ∷ key) number
+Covers units pairs unit (Node index) = (key : List ℕ) (number : ℤ) → MapsKey units (at_node index) key number → Has pairs (unit ∷ key) number
 
 covers-more : (units : List ℕ) (xs ys : List Pair) (unit : ℕ) (target : Target) → ((key : List ℕ) (number : ℤ) → Has xs key number → Has ys key number)
     → Covers units xs unit target → Covers units ys unit target
 covers-more units xs ys unit (Value value) f h = f (unit ∷ []) (cast_signed w32 value) h
-covers-more units xs ys unit (Node place) f h = λ key number k. f (unit ∷ key) number (h key number k)
+covers-more units xs ys unit (Node index) f h = λ key number k. f (unit ∷ key) number (h key number k)
 
 covers-spelled : (units : List ℕ) (pairs : List Pair) {branch : Branch} {key : List ℕ} {number : ℤ} → MapsKey units (at_state (state.Branch branch)) key number
     → ((unit : ℕ) (target : Target) → Leads units branch unit target → Covers units pairs unit target) → Has pairs key number
 covers-spelled units pairs (branch_value branch unit value leads) f = f unit (Value value) leads
-covers-spelled units pairs (branch_node branch unit place key number leads rest) f = f unit (Node place) leads key number rest
+covers-spelled units pairs (branch_node branch unit index key number leads rest) f = f unit (Node index) leads key number rest
 
 -- all that is spelled in a part is listed
 abbrev ListsAll : List ℕ → GrammarPart → List Pair → Type 0
@@ -106,12 +106,12 @@ valued-listed units (Some value) next pairs key number f h =
 
 pub lists_all : (units : List ℕ) {part : GrammarPart} (s : IsSound units part) → ListsAll units part (listing units s)
 unfolding listing
-lists_all units (sound_end place value node) = λ key number h.
+lists_all units (sound_end index value node) = λ key number h.
     ⊎_elim
     (λ here. inl (here.0, ap (λ v. cast_signed w32 v) (some-same value here.1 here.2) ∙ here.3))
     (λ on. absurd (none-some on.0 on.1))
     (at-node units h node)
-lists_all units (sound_node place value next node rest) = λ key number h.
+lists_all units (sound_node index value next node rest) = λ key number h.
     valued-listed units value next (listing units rest) key number (lists_all units rest) (at-node units h node)
 lists_all units (sound_run run unit e more rest) = λ key number h.
     let found = run-goes units run unit e h more in
@@ -137,26 +137,26 @@ lists_all units (sound_value branch low high value entry more few e to above bel
     covers-more units (listing units rest) (first ∷ listing units rest) other target (λ key number h. inr h)
     (lists_all units rest other target (listed (fewer branch entry) other target (omega (arith, few)) found)))
     (entry_found units (leads_listed units leads few) entry (omega (arith, more)) e)
-lists_all units (sound_jump branch low high place entry more few e to above below node rest) = λ other target leads.
+lists_all units (sound_jump branch low high index entry more few e to above below node rest) = λ other target leads.
     let first : List Pair = behind_unit entry.unit (listing units node) in
     ⊎_elim
     (λ (found : (entry.unit ≡ other) × (entry_target units entry ≡ Some target)).
-    subst (λ target. Covers units (first ++ listing units rest) other target) (some-same (Node place) target (sym to ∙ found.1))
+    subst (λ target. Covers units (first ++ listing units rest) other target) (some-same (Node index) target (sym to ∙ found.1))
     (λ key number h. has-left first (listing units rest) (other ∷ key) number
     (subst (λ other. Has first (other ∷ key) number) found.0 (has-behind entry.unit (listing units node) key number (lists_all units node key number h)))))
     (λ (found : Lists units (branch.count - 1 - 1) entry.number.end other target).
     covers-more units (listing units rest) (first ++ listing units rest) other target (has-right first (listing units rest))
     (lists_all units rest other target (listed (fewer branch entry) other target (omega (arith, few)) found)))
     (entry_found units (leads_listed units leads few) entry (omega (arith, more)) e)
-lists_all units (sound_halves branch low high middle place jump many e d lands above below first second) = λ other target leads.
+lists_all units (sound_halves branch low high middle index jump many e d lands above below first second) = λ other target leads.
     ⊎_elim
-    (λ (found : (other < middle) × Leads units (record { count = branch.count / 2; place = place }) other target).
+    (λ (found : (other < middle) × Leads units (record { count = branch.count / 2; index = index }) other target).
     covers-more units (listing units first) (listing units first ++ listing units second) other target (has-left (listing units first) (listing units second))
     (lists_all units first other target found.1))
-    (λ (found : (middle ≤ other) × Leads units (record { count = branch.count - branch.count / 2; place = jump.end }) other target).
+    (λ (found : (middle ≤ other) × Leads units (record { count = branch.count - branch.count / 2; index = jump.end }) other target).
     covers-more units (listing units second) (listing units first ++ listing units second) other target (has-right (listing units first) (listing units second))
     (lists_all units second other target found.1))
-    (leads_half units middle place jump leads many e d lands)
+    (leads_half units middle index jump leads many e d lands)
 
 -- each key begins with such a unit
 abbrev Firsts : (ℕ → Type 0) → List Pair → Type 0
@@ -179,25 +179,25 @@ abbrev Between : ℕ → ℕ → ℕ → Type 0
 Between low high unit = (low ≤ unit) × (unit < high)
 
 abbrev Begins : GrammarPart → List Pair → Type 0
-Begins (spot (at_node place)) pairs = Unit {0}
+Begins (spot (at_node index)) pairs = Unit {0}
 Begins (spot (at_state next)) pairs = Firsts (λ unit. Unit {0}) pairs
 Begins (within branch low high) pairs = Firsts (Between low high) pairs
 
 begins : (units : List ℕ) {part : GrammarPart} (s : IsSound units part) → Begins part (listing units s)
 unfolding listing
-begins units (sound_end place value node) = tt
-begins units (sound_node place value next node rest) = tt
+begins units (sound_end index value node) = tt
+begins units (sound_node index value next node rest) = tt
 begins units (sound_run run unit e more rest) = firsts-behind (λ unit. Unit {0}) unit (listing units rest) tt
 begins units (sound_run_end run unit e few rest) = firsts-behind (λ unit. Unit {0}) unit (listing units rest) tt
 begins units (sound_branch branch rest) = firsts-weaker (Between 0 0x10000) (λ unit. Unit {0}) (listing units rest) (λ unit h. tt) (begins units rest)
 begins units (sound_last branch low high unit one e above below rest) = firsts-behind (Between low high) unit (listing units rest) (above, below)
 begins units (sound_value branch low high value entry more few e to above below rest) =
     ((entry.unit, [], refl, (above, below)), firsts-weaker (Between (entry.unit + 1) high) (Between low high) (listing units rest) (λ unit h. (omega (arith, above, h.0), h.1)) (begins units rest))
-begins units (sound_jump branch low high place entry more few e to above below node rest) =
+begins units (sound_jump branch low high index entry more few e to above below node rest) =
     firsts-append (Between low high) (behind_unit entry.unit (listing units node)) (listing units rest)
     (firsts-behind (Between low high) entry.unit (listing units node) (above, below))
     (firsts-weaker (Between (entry.unit + 1) high) (Between low high) (listing units rest) (λ unit h. (omega (arith, above, h.0), h.1)) (begins units rest))
-begins units (sound_halves branch low high middle place jump many e d lands above below first second) =
+begins units (sound_halves branch low high middle index jump many e d lands above below first second) =
     firsts-append (Between low high) (listing units first) (listing units second)
     (firsts-weaker (Between low middle) (Between low high) (listing units first) (λ unit h. (h.0, omega (arith, h.1, below))) (begins units first))
     (firsts-weaker (Between middle high) (Between low high) (listing units second) (λ unit h. (omega (arith, h.0, above), h.1)) (begins units second))
@@ -254,8 +254,8 @@ rising-valued (Some value) pairs h k = (above-nil pairs h, k)
 
 pub rising : (units : List ℕ) {part : GrammarPart} (s : IsSound units part) → Rising (listing units s)
 unfolding listing
-rising units (sound_end place value node) = (tt, tt)
-rising units (sound_node place value next node rest) = rising-valued value (listing units rest) (begins units rest) (rising units rest)
+rising units (sound_end index value node) = (tt, tt)
+rising units (sound_node index value next node rest) = rising-valued value (listing units rest) (begins units rest) (rising units rest)
 rising units (sound_run run unit e more rest) = rising-behind unit (listing units rest) (rising units rest)
 rising units (sound_run_end run unit e few rest) = rising-behind unit (listing units rest) (rising units rest)
 rising units (sound_branch branch rest) = rising units rest
@@ -265,12 +265,12 @@ rising units (sound_value branch low high value entry more few e to above below 
       (firsts-weaker (Between (entry.unit + 1) high) (λ unit. entry.unit + 1 ≤ unit) (listing units rest) (λ unit h. h.0) (begins units rest)),
   rising units rest,
 )
-rising units (sound_jump branch low high place entry more few e to above below node rest) =
+rising units (sound_jump branch low high index entry more few e to above below node rest) =
     rising-append (entry.unit + 1) (behind_unit entry.unit (listing units node)) (listing units rest)
     (rising-behind entry.unit (listing units node) (rising units node)) (rising units rest)
     (firsts-behind (λ unit. unit < entry.unit + 1) entry.unit (listing units node) (omega arith))
     (firsts-weaker (Between (entry.unit + 1) high) (λ unit. entry.unit + 1 ≤ unit) (listing units rest) (λ unit h. h.0) (begins units rest))
-rising units (sound_halves branch low high middle place jump many e d lands above below first second) =
+rising units (sound_halves branch low high middle index jump many e d lands above below first second) =
     rising-append middle (listing units first) (listing units second) (rising units first) (rising units second)
     (firsts-weaker (Between low middle) (λ unit. unit < middle) (listing units first) (λ unit h. h.1) (begins units first))
     (firsts-weaker (Between middle high) (λ unit. middle ≤ unit) (listing units second) (λ unit h. h.0) (begins units second))

@@ -29,15 +29,15 @@ with_value (Some value) pairs = ([], cast_signed w32 value) ∷ pairs
 
 -- the keys and values in order
 unfoldable pub listing : (units : List ℕ) {part : GrammarPart} → IsSound units part → List Pair
-listing units (sound_end place value node) = ([], cast_signed w32 value) ∷ []
-listing units (sound_node place value next node rest) = with_value value (listing units rest)
+listing units (sound_end index value node) = ([], cast_signed w32 value) ∷ []
+listing units (sound_node index value next node rest) = with_value value (listing units rest)
 listing units (sound_run run unit e more rest) = behind_unit unit (listing units rest)
 listing units (sound_run_end run unit e few rest) = behind_unit unit (listing units rest)
 listing units (sound_branch branch rest) = listing units rest
 listing units (sound_last branch low high unit one e above below rest) = behind_unit unit (listing units rest)
 listing units (sound_value branch low high value entry more few e to above below rest) = (entry.unit ∷ [], cast_signed w32 value) ∷ listing units rest
-listing units (sound_jump branch low high place entry more few e to above below node rest) = behind_unit entry.unit (listing units node) ++ listing units rest
-listing units (sound_halves branch low high middle place jump many e d lands above below first second) = listing units first ++ listing units second
+listing units (sound_jump branch low high index entry more few e to above below node rest) = behind_unit entry.unit (listing units node) ++ listing units rest
+listing units (sound_halves branch low high middle index jump many e d lands above below first second) = listing units first ++ listing units second
 
 pub has-left : (xs ys : List Pair) (key : List ℕ) (number : ℤ) → Has xs key number → Has (xs ++ ys) key number
 has-left [] ys key number h = absurd h
@@ -67,8 +67,8 @@ Bounds units (spot s) = Unit {0}
 Bounds units (within branch low high) = (unit : ℕ) (target : Target) → Leads units branch unit target → (low ≤ unit) × (unit < high)
 
 bounds : (units : List ℕ) {part : GrammarPart} → IsSound units part → Bounds units part
-bounds units (sound_end place value node) = tt
-bounds units (sound_node place value next node rest) = tt
+bounds units (sound_end index value node) = tt
+bounds units (sound_node index value next node rest) = tt
 bounds units (sound_run run unit e more rest) = tt
 bounds units (sound_run_end run unit e few rest) = tt
 bounds units (sound_branch branch rest) = tt
@@ -82,58 +82,58 @@ bounds units (sound_value branch low high value entry more few e to above below 
     (λ (found : Lists units (branch.count - 1 - 1) entry.number.end other target).
     let h = bounds units rest other target (listed (fewer branch entry) other target (omega (arith, few)) found) in (omega (arith, above, h.0), h.1))
     (entry_found units (leads_listed units leads few) entry (omega (arith, more)) e)
-bounds units (sound_jump branch low high place entry more few e to above below node rest) = λ other target leads.
+bounds units (sound_jump branch low high index entry more few e to above below node rest) = λ other target leads.
     ⊎_elim
     (λ (found : (entry.unit ≡ other) × (entry_target units entry ≡ Some target)). (omega (arith, above, found.0), omega (arith, below, found.0)))
     (λ (found : Lists units (branch.count - 1 - 1) entry.number.end other target).
     let h = bounds units rest other target (listed (fewer branch entry) other target (omega (arith, few)) found) in (omega (arith, above, h.0), h.1))
     (entry_found units (leads_listed units leads few) entry (omega (arith, more)) e)
-bounds units (sound_halves branch low high middle place jump many e d lands above below first second) = λ other target leads.
+bounds units (sound_halves branch low high middle index jump many e d lands above below first second) = λ other target leads.
     ⊎_elim
-    (λ (found : (other < middle) × Leads units (record { count = branch.count / 2; place = place }) other target).
+    (λ (found : (other < middle) × Leads units (record { count = branch.count / 2; index = index }) other target).
     let h = bounds units first other target found.1 in (h.0, omega (arith, h.1, below)))
-    (λ (found : (middle ≤ other) × Leads units (record { count = branch.count - branch.count / 2; place = jump.end }) other target).
+    (λ (found : (middle ≤ other) × Leads units (record { count = branch.count - branch.count / 2; index = jump.end }) other target).
     let h = bounds units second other target found.1 in (omega (arith, h.0, above), h.1))
-    (leads_half units middle place jump leads many e d lands)
+    (leads_half units middle index jump leads many e d lands)
 
 -- a branch leads as another does, and so spells its keys
 widen : (units : List ℕ) (wide : Branch) {branch : Branch} {key : List ℕ} {number : ℤ} → MapsKey units (at_state (state.Branch branch)) key number
     → ((unit : ℕ) (target : Target) → Leads units branch unit target → Leads units wide unit target) → MapsKey units (at_state (state.Branch wide)) key number
 widen units wide (branch_value branch unit value leads) f = branch_value wide unit value (f unit (Value value) leads)
-widen units wide (branch_node branch unit place key number leads rest) f = branch_node wide unit place key number (f unit (Node place) leads) rest
+widen units wide (branch_node branch unit index key number leads rest) f = branch_node wide unit index key number (f unit (Node index) leads) rest
 
 -- after its first entry a branch leads as what is left of it does
-later-leads : (units : List ℕ) (branch : Branch) (entry : Entry) {high : ℕ} → 1 < branch.count → branch.count ≤ 5 → entry_at units branch.place ≡ Some entry
+later-leads : (units : List ℕ) (branch : Branch) (entry : Entry) {high : ℕ} → 1 < branch.count → branch.count ≤ 5 → entry_at units branch.index ≡ Some entry
     → Bounds units (within (fewer branch entry) (entry.unit + 1) high)
     → (unit : ℕ) (target : Target) → Leads units (fewer branch entry) unit target → Leads units branch unit target
 later-leads units branch entry more few e inside unit target leads =
     let above = (inside unit target leads).0 in
     listed branch unit target few
-    (subst (λ entries. Lists units entries branch.place unit target) (omega (arith, more))
-    (later (branch.count - 1 - 1) branch.place unit entry target e (λ same. omega (arith, above, same)) (leads_listed units leads (omega (arith, few)))))
+    (subst (λ entries. Lists units entries branch.index unit target) (omega (arith, more))
+    (later (branch.count - 1 - 1) branch.index unit entry target e (λ same. omega (arith, above, same)) (leads_listed units leads (omega (arith, few)))))
 
 -- what is spelled in a part
 abbrev pub SpelledIn : List ℕ → GrammarPart → List ℕ → ℤ → Type 0
 SpelledIn units (spot s) key number = MapsKey units s key number
 SpelledIn units (within branch low high) key number = MapsKey units (at_state (state.Branch branch)) key number
 
-value-spelled : (units : List ℕ) (place value : ℕ) (next : Option State) (key : List ℕ) (number : ℤ) → IsNode units place (Some value) next
-    → ([] ≡ key) × (cast_signed w32 value ≡ number) → MapsKey units (at_node place) key number
-value-spelled units place value next key number node h =
-    subst (λ key. MapsKey units (at_node place) key number) h.0 (subst (λ number. MapsKey units (at_node place) [] number) h.1 (ends place value next node))
+value-spelled : (units : List ℕ) (index value : ℕ) (next : Option State) (key : List ℕ) (number : ℤ) → IsNode units index (Some value) next
+    → ([] ≡ key) × (cast_signed w32 value ≡ number) → MapsKey units (at_node index) key number
+value-spelled units index value next key number node h =
+    subst (λ key. MapsKey units (at_node index) key number) h.0 (subst (λ number. MapsKey units (at_node index) [] number) h.1 (ends index value next node))
 
-node-spelled : (units : List ℕ) (place : ℕ) (value : Option ℕ) (next : State) (pairs : List Pair) (key : List ℕ) (number : ℤ) → IsNode units place value (Some next)
-    → (Has pairs key number → MapsKey units (at_state next) key number) → Has (with_value value pairs) key number → MapsKey units (at_node place) key number
-node-spelled units place None next pairs key number node f h = goes_on place None next key number node (f h)
-node-spelled units place (Some value) next pairs key number node f h =
-    ⊎_elim (λ here. value-spelled units place value (Some next) key number node here) (λ rest. goes_on place (Some value) next key number node (f rest)) h
+node-spelled : (units : List ℕ) (index : ℕ) (value : Option ℕ) (next : State) (pairs : List Pair) (key : List ℕ) (number : ℤ) → IsNode units index value (Some next)
+    → (Has pairs key number → MapsKey units (at_state next) key number) → Has (with_value value pairs) key number → MapsKey units (at_node index) key number
+node-spelled units index None next pairs key number node f h = goes_on index None next key number node (f h)
+node-spelled units index (Some value) next pairs key number node f h =
+    ⊎_elim (λ here. value-spelled units index value (Some next) key number node here) (λ rest. goes_on index (Some value) next key number node (f rest)) h
 
 pub listed_spelled : (units : List ℕ) {part : GrammarPart} (s : IsSound units part) (key : List ℕ) (number : ℤ) → Has (listing units s) key number → SpelledIn units part key number
 unfolding listing
-listed_spelled units (sound_end place value node) key number h =
-    ⊎_elim (λ here. value-spelled units place value None key number node here) (λ rest. absurd rest) h
-listed_spelled units (sound_node place value next node rest) key number h =
-    node-spelled units place value next (listing units rest) key number node (listed_spelled units rest key number) h
+listed_spelled units (sound_end index value node) key number h =
+    ⊎_elim (λ here. value-spelled units index value None key number node here) (λ rest. absurd rest) h
+listed_spelled units (sound_node index value next node rest) key number h =
+    node-spelled units index value next (listing units rest) key number node (listed_spelled units rest key number) h
 listed_spelled units (sound_run run unit e more rest) key number h =
     let found = behind-has unit (listing units rest) key number h in
     subst (λ key. MapsKey units (at_state (state.Match run)) key number) (sym found.1) (run_on run unit found.0 number e more (listed_spelled units rest found.0 number found.2))
@@ -144,7 +144,7 @@ listed_spelled units (sound_branch branch rest) key number h = listed_spelled un
 listed_spelled units (sound_last branch low high unit one e above below rest) key number h =
     let found = behind-has unit (listing units rest) key number h in
     subst (λ key. MapsKey units (at_state (state.Branch branch)) key number) (sym found.1)
-    (branch_node branch unit (branch.place + 1) found.0 number (last_leads units branch unit one e) (listed_spelled units rest found.0 number found.2))
+    (branch_node branch unit (branch.index + 1) found.0 number (last_leads units branch unit one e) (listed_spelled units rest found.0 number found.2))
 listed_spelled units (sound_value branch low high value entry more few e to above below rest) key number h =
     ⊎_elim
     (λ here. subst (λ key. MapsKey units (at_state (state.Branch branch)) key number) here.0
@@ -152,18 +152,18 @@ listed_spelled units (sound_value branch low high value entry more few e to abov
     (branch_value branch entry.unit value (entry_leads units branch entry (Value value) more few e to))))
     (λ others. widen units branch (listed_spelled units rest key number others) (later-leads units branch entry more few e (bounds units rest)))
     h
-listed_spelled units (sound_jump branch low high place entry more few e to above below node rest) key number h =
+listed_spelled units (sound_jump branch low high index entry more few e to above below node rest) key number h =
     ⊎_elim
     (λ (there : Has (behind_unit entry.unit (listing units node)) key number).
     let found = behind-has entry.unit (listing units node) key number there in
     subst (λ key. MapsKey units (at_state (state.Branch branch)) key number) (sym found.1)
-    (branch_node branch entry.unit place found.0 number (entry_leads units branch entry (Node place) more few e to) (listed_spelled units node found.0 number found.2)))
+    (branch_node branch entry.unit index found.0 number (entry_leads units branch entry (Node index) more few e to) (listed_spelled units node found.0 number found.2)))
     (λ (others : Has (listing units rest) key number). widen units branch (listed_spelled units rest key number others) (later-leads units branch entry more few e (bounds units rest)))
     (has-cases (behind_unit entry.unit (listing units node)) (listing units rest) key number h)
-listed_spelled units (sound_halves branch low high middle place jump many e d lands above below first second) key number h =
+listed_spelled units (sound_halves branch low high middle index jump many e d lands above below first second) key number h =
     ⊎_elim
     (λ (there : Has (listing units first) key number). widen units branch (listed_spelled units first key number there)
-    (λ unit target leads. lower branch unit middle place jump target many e d (bounds units first unit target leads).1 lands leads))
+    (λ unit target leads. lower branch unit middle index jump target many e d (bounds units first unit target leads).1 lands leads))
     (λ (there : Has (listing units second) key number). widen units branch (listed_spelled units second key number there)
     (λ unit target leads. upper branch unit middle jump target many e d (bounds units second unit target leads).0 leads))
     (has-cases (listing units first) (listing units second) key number h)

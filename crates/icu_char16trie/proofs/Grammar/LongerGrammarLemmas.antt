@@ -20,40 +20,40 @@ pub record IsKept (units : List ℕ) (rule : GrammarPart) (pairs : List Pair) : 
 module _ (units more : List ℕ) where
   pub kept : {rule : GrammarPart} (s : IsSound units rule) → IsKept (units ++ more) rule (listing units s)
   unfolding listing
-  kept (sound_end place value node) = record { sound = sound_end place value (node_stays units more node); same = refl }
-  kept (sound_node place value next node rest) =
+  kept (sound_end index value node) = record { sound = sound_end index value (node_stays units more node); same = refl }
+  kept (sound_node index value next node rest) =
       let k = kept rest in
-      record { sound = sound_node place value next (node_stays units more node) k.sound; same = ap (λ pairs. with_value value pairs) k.same }
+      record { sound = sound_node index value next (node_stays units more node) k.sound; same = ap (λ pairs. with_value value pairs) k.same }
   kept (sound_run run unit e many rest) =
       let k = kept rest in
-      record { sound = sound_run run unit (get_stays units more run.place unit e) many k.sound; same = ap (λ pairs. behind_unit unit pairs) k.same }
+      record { sound = sound_run run unit (get_stays units more run.index unit e) many k.sound; same = ap (λ pairs. behind_unit unit pairs) k.same }
   kept (sound_run_end run unit e few rest) =
       let k = kept rest in
-      record { sound = sound_run_end run unit (get_stays units more run.place unit e) few k.sound; same = ap (λ pairs. behind_unit unit pairs) k.same }
+      record { sound = sound_run_end run unit (get_stays units more run.index unit e) few k.sound; same = ap (λ pairs. behind_unit unit pairs) k.same }
   kept (sound_branch branch rest) =
       let k = kept rest in
       record { sound = sound_branch branch k.sound; same = k.same }
   kept (sound_last branch low high unit one e above below rest) =
       let k = kept rest in
-      record { sound = sound_last branch low high unit one (get_stays units more branch.place unit e) above below k.sound; same = ap (λ pairs. behind_unit unit pairs) k.same }
+      record { sound = sound_last branch low high unit one (get_stays units more branch.index unit e) above below k.sound; same = ap (λ pairs. behind_unit unit pairs) k.same }
   kept (sound_value branch low high value entry many few e to above below rest) =
       let k = kept rest in
       record {
-        sound = sound_value branch low high value entry many few (entry_stays units more branch.place entry e) (target_stays units more entry (Value value) to) above below k.sound;
+        sound = sound_value branch low high value entry many few (entry_stays units more branch.index entry e) (target_stays units more entry (Value value) to) above below k.sound;
         same = ap (λ pairs. (entry.unit ∷ [], cast_signed w32 value) ∷ pairs) k.same;
       }
-  kept (sound_jump branch low high place entry many few e to above below node rest) =
+  kept (sound_jump branch low high index entry many few e to above below node rest) =
       let n = kept node in
       let k = kept rest in
       record {
-        sound = sound_jump branch low high place entry many few (entry_stays units more branch.place entry e) (target_stays units more entry (Node place) to) above below n.sound k.sound;
+        sound = sound_jump branch low high index entry many few (entry_stays units more branch.index entry e) (target_stays units more entry (Node index) to) above below n.sound k.sound;
         same = ap (λ pairs. behind_unit entry.unit pairs ++ listing (units ++ more) k.sound) n.same ∙ ap (λ pairs. behind_unit entry.unit (listing units node) ++ pairs) k.same;
       }
-  kept (sound_halves branch low high middle place jump many e d lands above below first second) =
+  kept (sound_halves branch low high middle index jump many e d lands above below first second) =
       let f = kept first in
       let k = kept second in
       record {
-        sound = sound_halves branch low high middle place jump many (get_stays units more branch.place middle e) (delta_stays units more (branch.place + 1) jump d) (landing_stays units more jump place lands) above below f.sound k.sound;
+        sound = sound_halves branch low high middle index jump many (get_stays units more branch.index middle e) (delta_stays units more (branch.index + 1) jump d) (landing_stays units more jump index lands) above below f.sound k.sound;
         same = ap (λ pairs. pairs ++ listing (units ++ more) k.sound) f.same ∙ ap (λ pairs. listing units first ++ pairs) k.same;
       }
 

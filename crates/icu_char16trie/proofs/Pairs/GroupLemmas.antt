@@ -126,7 +126,7 @@ module _ (depth : ℕ) (pairs left : List (Bor (List ℕ) × ℤ)) (groups : Lis
     from = next_from group.unit (rests (depth + 1) (take n left)) (rests depth (drop n left)) some sorted_cut other;
   }
 
--- the same where the pairs that are left begin at a place
+-- the same where the pairs that are left begin at an index
 pub so_far_step : (depth start n : ℕ) (pairs left : List (Bor (List ℕ) × ℤ)) (groups more : List Group) (group : Group) → left ≡ drop start pairs → more ≡ groups ++ group ∷ []
     → SoFar depth pairs groups (drop start pairs) → StartsWith group.unit (rests depth left) → group.unit < 2 ^ 16 → group.pairs.now ≡ take n left
     → rests depth (take n left) ≡ prefixed (group.unit ∷ []) (rests (depth + 1) (take n left)) → StartsOther group.unit (rests depth (drop n left))

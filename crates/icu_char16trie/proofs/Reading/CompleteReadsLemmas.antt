@@ -41,16 +41,16 @@ first-valued (Some value) xs h = (([], cast_signed w32 value), xs, refl)
 
 has-first : (units : List ℕ) {rule : Rule} (s : IsSound units rule) → HasFirst (listing units s)
 unfolding listing
-has-first units (sound_end place value node) = (([], cast_signed w32 value), [], refl)
-has-first units (sound_node place value next node rest) = first-valued value (listing units rest) (has-first units rest)
+has-first units (sound_end index value node) = (([], cast_signed w32 value), [], refl)
+has-first units (sound_node index value next node rest) = first-valued value (listing units rest) (has-first units rest)
 has-first units (sound_run run unit e more rest) = first-behind unit (listing units rest) (has-first units rest)
 has-first units (sound_run_end run unit e few rest) = first-behind unit (listing units rest) (has-first units rest)
 has-first units (sound_branch branch rest) = has-first units rest
 has-first units (sound_last branch low high unit one e above below rest) = first-behind unit (listing units rest) (has-first units rest)
 has-first units (sound_value branch low high value entry more few e to above below rest) = ((entry.unit ∷ [], cast_signed w32 value), listing units rest, refl)
-has-first units (sound_jump branch low high place entry more few e to above below node rest) =
+has-first units (sound_jump branch low high index entry more few e to above below node rest) =
     first-append (behind_unit entry.unit (listing units node)) (listing units rest) (first-behind entry.unit (listing units node) (has-first units node))
-has-first units (sound_halves branch low high middle place jump many e d lands above below first second) =
+has-first units (sound_halves branch low high middle index jump many e d lands above below first second) =
     first-append (listing units first) (listing units second) (has-first units first)
 
 -- each key, after this number of units, is within the limit
@@ -83,7 +83,7 @@ fits-longer limit key unit xs h = subst (λ n. Fits limit n xs) (sym (length-app
 
 -- the part of a rule
 abbrev part_of : Rule → Part
-part_of (spot (at_node place)) = part.Node place
+part_of (spot (at_node index)) = part.Node index
 part_of (spot (at_state (state.Match run))) = part.Run run
 part_of (spot (at_state (state.Branch branch))) = part.Branch (record { branch = branch; low = 0; high = 0x10000 })
 part_of (spot (at_state (state.Stopped))) = part.Node 0
@@ -95,29 +95,29 @@ module _ (units : List ℕ) (limit : ℕ) where
   ReadsOn rule pairs = (key : List ℕ) (rest : List Job) (back : List Pair) → Fits limit (length key) pairs → Reads units limit rest back
       → Reads units limit ((key, part_of rule) ∷ rest) (under key pairs ++ back)
 
-  node-read : (place : ℕ) (value : Option ℕ) (next : State) (pairs : List Pair) → IsNode units place value (Some next) → HasFirst pairs
-      → IsSound units (spot (at_state next)) → ReadsOn (spot (at_state next)) pairs → ReadsOn (spot (at_node place)) (with_value value pairs)
-  node-read place value (state.Stopped) pairs node first sound f = elim sound [ ]
-  node-read place None (state.Match run) pairs node first sound f = λ key rest back fits more.
-      on key (part.Node place) (node_of None (Some (part.Run run))) rest (under key pairs ++ back)
-      (step_of units (node_stands place None (Some (state.Match run)) node)) tt (f key rest back fits more)
-  node-read place (Some value) (state.Match run) pairs node first sound f = λ key rest back fits more.
-      subst (λ key'. Reads units limit ((key, part.Node place) ∷ rest) ((key', cast_signed w32 value) ∷ (under key pairs ++ back))) (sym (append-nil key))
-      (on key (part.Node place) (node_of (Some value) (Some (part.Run run))) rest (under key pairs ++ back)
-      (step_of units (node_stands place (Some value) (Some (state.Match run)) node)) tt (f key rest back fits.1 more))
-  node-read place None (state.Branch branch) pairs node first sound f = λ key rest back fits more.
-      on key (part.Node place) (node_of None (part_for (state.Branch branch))) rest (under key pairs ++ back)
-      (step_of units (node_stands place None (Some (state.Branch branch)) node)) tt (f key rest back fits more)
-  node-read place (Some value) (state.Branch branch) pairs node first sound f = λ key rest back fits more.
-      subst (λ key'. Reads units limit ((key, part.Node place) ∷ rest) ((key', cast_signed w32 value) ∷ (under key pairs ++ back))) (sym (append-nil key))
-      (on key (part.Node place) (node_of (Some value) (part_for (state.Branch branch))) rest (under key pairs ++ back)
-      (step_of units (node_stands place (Some value) (Some (state.Branch branch)) node)) tt (f key rest back fits.1 more))
+  node-read : (index : ℕ) (value : Option ℕ) (next : State) (pairs : List Pair) → IsNode units index value (Some next) → HasFirst pairs
+      → IsSound units (spot (at_state next)) → ReadsOn (spot (at_state next)) pairs → ReadsOn (spot (at_node index)) (with_value value pairs)
+  node-read index value (state.Stopped) pairs node first sound f = elim sound [ ]
+  node-read index None (state.Match run) pairs node first sound f = λ key rest back fits more.
+      on key (part.Node index) (node_of None (Some (part.Run run))) rest (under key pairs ++ back)
+      (step_of units (node_stands index None (Some (state.Match run)) node)) tt (f key rest back fits more)
+  node-read index (Some value) (state.Match run) pairs node first sound f = λ key rest back fits more.
+      subst (λ key'. Reads units limit ((key, part.Node index) ∷ rest) ((key', cast_signed w32 value) ∷ (under key pairs ++ back))) (sym (append-nil key))
+      (on key (part.Node index) (node_of (Some value) (Some (part.Run run))) rest (under key pairs ++ back)
+      (step_of units (node_stands index (Some value) (Some (state.Match run)) node)) tt (f key rest back fits.1 more))
+  node-read index None (state.Branch branch) pairs node first sound f = λ key rest back fits more.
+      on key (part.Node index) (node_of None (part_for (state.Branch branch))) rest (under key pairs ++ back)
+      (step_of units (node_stands index None (Some (state.Branch branch)) node)) tt (f key rest back fits more)
+  node-read index (Some value) (state.Branch branch) pairs node first sound f = λ key rest back fits more.
+      subst (λ key'. Reads units limit ((key, part.Node index) ∷ rest) ((key', cast_signed w32 value) ∷ (under key pairs ++ back))) (sym (append-nil key))
+      (on key (part.Node index) (node_of (Some value) (part_for (state.Branch branch))) rest (under key pairs ++ back)
+      (step_of units (node_stands index (Some value) (Some (state.Branch branch)) node)) tt (f key rest back fits.1 more))
 
   behind-read : (key : List ℕ) (unit : ℕ) (pairs back : List Pair) (jobs : List Job) → Reads units limit jobs (under (key ++ (unit ∷ [])) pairs ++ back)
       → Reads units limit jobs (under key (behind_unit unit pairs) ++ back)
   behind-read key unit pairs back jobs h = subst (λ pairs. Reads units limit jobs (pairs ++ back)) (under-unit key unit pairs) h
 
-  run-read : (run : Match) (unit : ℕ) (next : Part) (pairs : List Pair) → slice_get units run.place ≡ Some unit → HasFirst pairs → run_on run ≡ next
+  run-read : (run : Match) (unit : ℕ) (next : Part) (pairs : List Pair) → slice_get units run.index ≡ Some unit → HasFirst pairs → run_on run ≡ next
       → (key : List ℕ) (rest : List Job) (back : List Pair) → Fits limit (length key) (behind_unit unit pairs)
       → Reads units limit ((key ++ (unit ∷ []), next) ∷ rest) (under (key ++ (unit ∷ [])) pairs ++ back)
       → Reads units limit ((key, part.Run run) ∷ rest) (under key (behind_unit unit pairs) ++ back)
@@ -129,25 +129,25 @@ module _ (units : List ℕ) (limit : ℕ) where
 
   pub sound-reads : {rule : Rule} (s : IsSound units rule) → ReadsOn rule (listing units s)
   unfolding listing
-  sound-reads (sound_end place value node) = λ key rest back fits more.
-      subst (λ key'. Reads units limit ((key, part.Node place) ∷ rest) ((key', cast_signed w32 value) ∷ back)) (sym (append-nil key))
-      (on key (part.Node place) (node_of (Some value) None) rest back (step_of units (node_stands place (Some value) None node)) tt more)
-  sound-reads (sound_node place value next node rest) = node-read place value next (listing units rest) node (has-first units rest) rest (sound-reads rest)
+  sound-reads (sound_end index value node) = λ key rest back fits more.
+      subst (λ key'. Reads units limit ((key, part.Node index) ∷ rest) ((key', cast_signed w32 value) ∷ back)) (sym (append-nil key))
+      (on key (part.Node index) (node_of (Some value) None) rest back (step_of units (node_stands index (Some value) None node)) tt more)
+  sound-reads (sound_node index value next node rest) = node-read index value next (listing units rest) node (has-first units rest) rest (sound-reads rest)
   sound-reads (sound_run run unit e more rest) = λ key jobs back fits h.
-      let go : Part = part.Run (record { left = run.left - 1; place = run.place + 1 }) in
-      run-read run unit go (listing units rest) e (has-first units rest) (if_not_leb run.left 1 (part.Node (run.place + 1)) go more) key jobs back fits
+      let go : Part = part.Run (record { left = run.left - 1; index = run.index + 1 }) in
+      run-read run unit go (listing units rest) e (has-first units rest) (if_not_leb run.left 1 (part.Node (run.index + 1)) go more) key jobs back fits
       (sound-reads rest (key ++ (unit ∷ [])) jobs back (fits-longer limit key unit (listing units rest) (fits-unit limit (length key) unit (listing units rest) fits)) h)
   sound-reads (sound_run_end run unit e few rest) = λ key jobs back fits h.
-      let go : Part = part.Run (record { left = run.left - 1; place = run.place + 1 }) in
-      run-read run unit (part.Node (run.place + 1)) (listing units rest) e (has-first units rest) (if_leb run.left 1 (part.Node (run.place + 1)) go few) key jobs back fits
+      let go : Part = part.Run (record { left = run.left - 1; index = run.index + 1 }) in
+      run-read run unit (part.Node (run.index + 1)) (listing units rest) e (has-first units rest) (if_leb run.left 1 (part.Node (run.index + 1)) go few) key jobs back fits
       (sound-reads rest (key ++ (unit ∷ [])) jobs back (fits-longer limit key unit (listing units rest) (fits-unit limit (length key) unit (listing units rest) fits)) h)
   sound-reads (sound_branch branch rest) = sound-reads rest
   sound-reads (sound_last branch low high unit one e above below rest) = λ key jobs back fits h.
       let b : Bounded = record { branch = branch; low = low; high = high } in
-      on key (part.Branch b) (record { unit = Some unit; value = None; next = Some (part.Node (branch.place + 1)); rest = None }) jobs
+      on key (part.Branch b) (record { unit = Some unit; value = None; next = Some (part.Node (branch.index + 1)); rest = None }) jobs
       (under key (behind_unit unit (listing units rest)) ++ back) (step_of units (last_stands b unit one e above below))
       (room-left limit (length key) unit (listing units rest) (has-first units rest) fits)
-      (behind-read key unit (listing units rest) back ((key ++ (unit ∷ []), part.Node (branch.place + 1)) ∷ jobs)
+      (behind-read key unit (listing units rest) back ((key ++ (unit ∷ []), part.Node (branch.index + 1)) ∷ jobs)
       (sound-reads rest (key ++ (unit ∷ [])) jobs back (fits-longer limit key unit (listing units rest) (fits-unit limit (length key) unit (listing units rest) fits)) h))
   sound-reads (sound_value branch low high value entry more few e to above below rest) = λ key jobs back fits h.
       let b : Bounded = record { branch = branch; low = low; high = high } in
@@ -157,49 +157,49 @@ module _ (units : List ℕ) (limit : ℕ) where
       (under key (listing units rest) ++ back) (step_of units (entry_stands b entry (Value value) more few e to above below))
       (omega (arith, room))
       (sound-reads rest key jobs back fits.1 h)
-  sound-reads (sound_jump branch low high place entry more few e to above below node rest) = λ key jobs back fits h.
+  sound-reads (sound_jump branch low high index entry more few e to above below node rest) = λ key jobs back fits h.
       let b : Bounded = record { branch = branch; low = low; high = high } in
       let others : Part = bounded (branch.count - 1) entry.number.end (entry.unit + 1) high in
       let first : List Pair = behind_unit entry.unit (listing units node) in
       let fits-first : Fits limit (length key) first = fits-left limit (length key) first (listing units rest) fits in
       let back-read : Reads units limit ((key, others) ∷ jobs) (under key (listing units rest) ++ back) =
       sound-reads rest key jobs back (fits-right limit (length key) first (listing units rest) fits) h in
-      let whole : Reads units limit ((key ++ (entry.unit ∷ []), part.Node place) ∷ (key, others) ∷ jobs) (under key first ++ (under key (listing units rest) ++ back)) =
-      behind-read key entry.unit (listing units node) (under key (listing units rest) ++ back) ((key ++ (entry.unit ∷ []), part.Node place) ∷ (key, others) ∷ jobs)
+      let whole : Reads units limit ((key ++ (entry.unit ∷ []), part.Node index) ∷ (key, others) ∷ jobs) (under key first ++ (under key (listing units rest) ++ back)) =
+      behind-read key entry.unit (listing units node) (under key (listing units rest) ++ back) ((key ++ (entry.unit ∷ []), part.Node index) ∷ (key, others) ∷ jobs)
       (sound-reads node (key ++ (entry.unit ∷ [])) ((key, others) ∷ jobs) (under key (listing units rest) ++ back)
       (fits-longer limit key entry.unit (listing units node) (fits-unit limit (length key) entry.unit (listing units node) fits-first)) back-read) in
-      on key (part.Branch b) (record { unit = Some entry.unit; value = None; next = Some (part.Node place); rest = Some others }) jobs
-      (under key (first ++ listing units rest) ++ back) (step_of units (entry_stands b entry (Node place) more few e to above below))
+      on key (part.Branch b) (record { unit = Some entry.unit; value = None; next = Some (part.Node index); rest = Some others }) jobs
+      (under key (first ++ listing units rest) ++ back) (step_of units (entry_stands b entry (Node index) more few e to above below))
       (room-left limit (length key) entry.unit (listing units node) (has-first units node) fits-first)
-      (subst (λ pairs. Reads units limit ((key ++ (entry.unit ∷ []), part.Node place) ∷ (key, others) ∷ jobs) pairs)
+      (subst (λ pairs. Reads units limit ((key ++ (entry.unit ∷ []), part.Node index) ∷ (key, others) ∷ jobs) pairs)
       (sym (ap (λ front. front ++ back) (under-append key first (listing units rest)) ∙ append_assoc (under key first) (under key (listing units rest)) back)) whole)
-  sound-reads (sound_halves branch low high middle place jump many e d lands above below first second) = λ key jobs back fits h.
+  sound-reads (sound_halves branch low high middle index jump many e d lands above below first second) = λ key jobs back fits h.
       let b : Bounded = record { branch = branch; low = low; high = high } in
-      let one : Part = bounded (branch.count / 2) place low middle in
+      let one : Part = bounded (branch.count / 2) index low middle in
       let other : Part = bounded (branch.count - branch.count / 2) jump.end middle high in
       let back-read : Reads units limit ((key, other) ∷ jobs) (under key (listing units second) ++ back) =
       sound-reads second key jobs back (fits-right limit (length key) (listing units first) (listing units second) fits) h in
       let whole : Reads units limit ((key, one) ∷ (key, other) ∷ jobs) (under key (listing units first) ++ (under key (listing units second) ++ back)) =
       sound-reads first key ((key, other) ∷ jobs) (under key (listing units second) ++ back) (fits-left limit (length key) (listing units first) (listing units second) fits) back-read in
       on key (part.Branch b) (record { unit = None; value = None; next = Some one; rest = Some other }) jobs
-      (under key (listing units first ++ listing units second) ++ back) (step_of units (halves_stand b middle place jump many e d lands above below)) tt
+      (under key (listing units first ++ listing units second) ++ back) (step_of units (halves_stand b middle index jump many e d lands above below)) tt
       (subst (λ pairs. Reads units limit ((key, one) ∷ (key, other) ∷ jobs) pairs)
       (sym (ap (λ front. front ++ back) (under-append key (listing units first) (listing units second)) ∙ append_assoc (under key (listing units first)) (under key (listing units second)) back)) whole)
 
 -- reading does not both end and stop
-ok-err : {step : Step} {place : ℕ} (r : Result Step ℕ) → r ≡ Ok step → r ≡ Err place → ⊥
+ok-err : {step : Step} {index : ℕ} (r : Result Step ℕ) → r ≡ Ok step → r ≡ Err index → ⊥
 ok-err r e f = cc
 
 ok-same : (r : Result Step ℕ) (step other : Step) → r ≡ Ok step → r ≡ Ok other → step ≡ other
 ok-same r step other e f = cc
 
-pub reads_stops : (units : List ℕ) (limit place : ℕ) {jobs : List Job} {pairs : List Pair} → Reads units limit jobs pairs → StopsIn units limit jobs place → ⊥
-reads_stops units limit place done h = elim h [ ]
-reads_stops units limit place (on key p step rest pairs e room more) (here key' p' rest' place' stuck) =
+pub reads_stops : (units : List ℕ) (limit index : ℕ) {jobs : List Job} {pairs : List Pair} → Reads units limit jobs pairs → StopsIn units limit jobs index → ⊥
+reads_stops units limit index done h = elim h [ ]
+reads_stops units limit index (on key p step rest pairs e room more) (here key' p' rest' index' stuck) =
     ⊎_elim (λ err. ok-err (part_step units p) e err)
     (λ full. full.2 (subst (λ (step : Step). HasRoom limit key step.unit) (ok-same (part_step units p) step full.0 e full.1) room)) stuck
-reads_stops units limit place (on key p step rest pairs e room more) (beyond key' p' step' rest' place' e' room' stops) =
-    reads_stops units limit place more (subst (λ step. StopsIn units limit (jobs_of key step ++ rest) place) (ok-same (part_step units p) step' step e' e) stops)
+reads_stops units limit index (on key p step rest pairs e room more) (beyond key' p' step' rest' index' e' room' stops) =
+    reads_stops units limit index more (subst (λ step. StopsIn units limit (jobs_of key step ++ rest) index) (ok-same (part_step units p) step' step e' e) stops)
 
 -- each key is within the limit
 abbrev pub Short : ℕ → List Pair → Type 0
@@ -267,10 +267,10 @@ contains_has (x ∷ xs) pair h =
 -- the first node of units that begin with no value
 module _ (units : List ℕ) (lead : ℕ) (is : slice_get units 0 ≡ Some lead) where
   pub root-trie : lead < 0x40 → IsSound units (spot (at_node 0)) → IsUnitTrie units
-  root-trie low (sound_end place value (final there l number e high reads)) = let same : l ≡ lead = some-same l lead (sym e ∙ is) in absurd (omega (arith, same, high, low))
-  root-trie low (sound_node place value next (valued there l number n e below high reads opens) rest) =
+  root-trie low (sound_end index value (final there l number e high reads)) = let same : l ≡ lead = some-same l lead (sym e ∙ is) in absurd (omega (arith, same, high, low))
+  root-trie low (sound_node index value next (valued there l number n e below high reads opens) rest) =
       let same : l ≡ lead = some-same l lead (sym e ∙ is) in absurd (omega (arith, same, high, low))
-  root-trie low (sound_node place value next (bare there l n e below opens) rest) = rooted next (bare 0 l next e below opens) rest
+  root-trie low (sound_node index value next (bare there l n e below opens) rest) = rooted next (bare 0 l next e below opens) rest
 
   pub trie-root : IsUnitTrie units → (lead < 0x40) × IsSound units (spot (at_node 0))
   trie-root (no_units e) = absurd (none-some lead (sym (ap (λ units. slice_get units 0) e) ∙ is))

@@ -9,9 +9,9 @@ failed A error = Err error
 pub error-same : {A : Type 0} (error other : ReadUnitsError) → failed A error ≡ Err other → error ≡ other
 error-same error other e = cc
 
-pub place-same : (a b : ℕ) → BadUnits a ≡ BadUnits b → a ≡ b
-place-same a b e = cc
+pub index-same : (a b : ℕ) → BadUnits a ≡ BadUnits b → a ≡ b
+index-same a b e = cc
 
 -- one error of two calls
-pub error_at : {A B : Type 0} (error : ReadUnitsError) (place : ℕ) → failed A error ≡ Err (BadUnits place) → failed B error ≡ Err (BadUnits place)
-error_at error place e = ap (λ error. Err error) (error-same error (BadUnits place) e)
+pub error_at : {A B : Type 0} (error : ReadUnitsError) (index : ℕ) → failed A error ≡ Err (BadUnits index) → failed B error ≡ Err (BadUnits index)
+error_at error index e = ap (λ error. Err error) (error-same error (BadUnits index) e)

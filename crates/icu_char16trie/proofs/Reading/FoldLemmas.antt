@@ -6,7 +6,7 @@ use Rattle.std.specs.List.{Contains}
 use Rattle.std.specs.Option.{IfSome}
 use Rattle.std.proofs.lemmas.List.{take-append-drop}
 use Rattle.std.proofs.lemmas.List.Elements.{Contains-append_left, Contains-append_right, Contains-append_cases, Contains-push, Contains-push_cases}
-use Rattle.icu_char16trie.specs.UnitPartSteps.{part_step, part_place}
+use Rattle.icu_char16trie.specs.UnitPartSteps.{part_step, part_index}
 use Rattle.icu_char16trie.specs.UnitReadingOrder.{extended}
 use Rattle.icu_char16trie.specs.KeyFolds.{IsReadable, readable, Spells, spelled_here, spelled_next, spelled_rest, folded_on, IsNoted, IsBehind, Finds, IsFolding, IsTakenUp, HasEnded, weight, part_weight, GrowsBy}
 use Rattle.icu_char16trie.specs.declared.reader.folds.Job.{Job}
@@ -22,8 +22,8 @@ contains_none x h = let less : h.0 < 0 = h.1 in omega (arith, less)
 one-step : (r : Result Step ℕ) (step other : Step) → r ≡ Ok step → r ≡ Ok other → step ≡ other
 one-step r step other e f = cc
 
-step-or-place : (r : Result Step ℕ) (step : Step) (place : ℕ) → r ≡ Ok step → r ≡ Err place → ⊥
-step-or-place r step place e f = cc
+step-or-index : (r : Result Step ℕ) (step : Step) (index : ℕ) → r ≡ Ok step → r ≡ Err index → ⊥
+step-or-index r step index e f = cc
 
 -- a part that can be read comes to such parts
 readable_step : (units : List ℕ) {p : Part} (step : Step) → part_step units p ≡ Ok step → IsReadable units p
@@ -32,8 +32,8 @@ readable_step units step e (readable p other f next rest) =
     let same : other ≡ step = one-step (part_step units p) other step f e in
     subst (λ (step : Step). ((q : Part) → step.next ≡ Some q → IsReadable units q) × ((q : Part) → step.rest ≡ Some q → IsReadable units q)) same (next, rest)
 
-stuck_unreadable : (units : List ℕ) {p : Part} (place : ℕ) → part_step units p ≡ Err place → IsReadable units p → ⊥
-stuck_unreadable units place e (readable p step f next rest) = step-or-place (part_step units p) step place f e
+stuck_unreadable : (units : List ℕ) {p : Part} (index : ℕ) → part_step units p ≡ Err index → IsReadable units p → ⊥
+stuck_unreadable units index e (readable p step f next rest) = step-or-index (part_step units p) step index f e
 
 -- ## How much is left
 
@@ -42,36 +42,36 @@ unfolding weight
 weight-append size [] ys = omega arith
 weight-append size (x ∷ xs) ys = let e = weight-append size xs ys in omega (arith, e)
 
-weight-one : {A : Type 0} (size : ℕ) (job : Job A) → weight size (job ∷ []) ≡ 3 ^ (size - part_place job.part)
+weight-one : {A : Type 0} (size : ℕ) (job : Job A) → weight size (job ∷ []) ≡ 3 ^ (size - part_index job.part)
 unfolding weight
 weight-one size job = omega arith
 
-weight-more : {A : Type 0} (size : ℕ) (job : Job A) (xs : List (Job A)) → weight size (job ∷ xs) ≡ 3 ^ (size - part_place job.part) + weight size xs
+weight-more : {A : Type 0} (size : ℕ) (job : Job A) (xs : List (Job A)) → weight size (job ∷ xs) ≡ 3 ^ (size - part_index job.part) + weight size xs
 unfolding weight
 weight-more size job xs = refl
 
-pub weight_inserted : {A : Type 0} (size place : ℕ) (job : Job A) (xs : List (Job A))
-    → weight size (take place xs ++ job ∷ drop place xs) ≡ weight size xs + 3 ^ (size - part_place job.part)
-weight_inserted size place job xs =
-    let e = weight-append size (take place xs) (job ∷ drop place xs) in
-    let f = weight-more size job (drop place xs) in
-    let g = weight-append size (take place xs) (drop place xs) in
-    let h : weight size (take place xs ++ drop place xs) ≡ weight size xs = ap (λ ys. weight size ys) (take-append-drop place xs) in
+pub weight_inserted : {A : Type 0} (size index : ℕ) (job : Job A) (xs : List (Job A))
+    → weight size (take index xs ++ job ∷ drop index xs) ≡ weight size xs + 3 ^ (size - part_index job.part)
+weight_inserted size index job xs =
+    let e = weight-append size (take index xs) (job ∷ drop index xs) in
+    let f = weight-more size job (drop index xs) in
+    let g = weight-append size (take index xs) (drop index xs) in
+    let h : weight size (take index xs ++ drop index xs) ≡ weight size xs = ap (λ ys. weight size ys) (take-append-drop index xs) in
     omega (arith, e, f, g, h)
 
-weight-pushed : {A : Type 0} (size : ℕ) (job : Job A) (xs : List (Job A)) → weight size (xs ++ job ∷ []) ≡ weight size xs + 3 ^ (size - part_place job.part)
+weight-pushed : {A : Type 0} (size : ℕ) (job : Job A) (xs : List (Job A)) → weight size (xs ++ job ∷ []) ≡ weight size xs + 3 ^ (size - part_index job.part)
 weight-pushed size job xs = let e = weight-append size xs (job ∷ []) in let f = weight-one size job in omega (arith, e, f)
 
-parts-less : (size place : ℕ) (next rest : Option Part) → place < size → IfSome next (λ q. place < part_place q) → IfSome rest (λ q. place < part_place q)
-    → part_weight size next + part_weight size rest < 3 ^ (size - place)
-parts-less size place None None within h k = let p = positive (size - place) in omega (arith, p)
-parts-less size place (Some next) None within h k =
-    let p = third size place (part_place next) within h in let q = positive (size - part_place next) in omega (arith, p, q)
-parts-less size place None (Some rest) within h k =
-    let p = third size place (part_place rest) within k in let q = positive (size - part_place rest) in omega (arith, p, q)
-parts-less size place (Some next) (Some rest) within h k =
-    let p = third size place (part_place next) within h in let q = third size place (part_place rest) within k in
-    let r = positive (size - part_place next) in let s = positive (size - part_place rest) in
+parts-less : (size index : ℕ) (next rest : Option Part) → index < size → IfSome next (λ q. index < part_index q) → IfSome rest (λ q. index < part_index q)
+    → part_weight size next + part_weight size rest < 3 ^ (size - index)
+parts-less size index None None within h k = let p = positive (size - index) in omega (arith, p)
+parts-less size index (Some next) None within h k =
+    let p = third size index (part_index next) within h in let q = positive (size - part_index next) in omega (arith, p, q)
+parts-less size index None (Some rest) within h k =
+    let p = third size index (part_index rest) within k in let q = positive (size - part_index rest) in omega (arith, p, q)
+parts-less size index (Some next) (Some rest) within h k =
+    let p = third size index (part_index next) within h in let q = third size index (part_index rest) within k in
+    let r = positive (size - part_index next) in let s = positive (size - part_index rest) in
     omega (arith, p, q, r, s)
 
 -- ## One job more
@@ -79,24 +79,24 @@ parts-less size place (Some next) (Some rest) within h k =
 abbrev job_of : {A : Type 0} → A → Part → Job A
 job_of folded part = record { part = part; folded = folded }
 
-pub put_new : {A : Type 0} (jobs : List (Job A)) (place : ℕ) (job : Job A) → GrowsBy (λ (one : Job A). one ≡ job) jobs (take place jobs ++ job ∷ drop place jobs)
-put_new jobs place job one =
-    let whole : take place jobs ++ drop place jobs ≡ jobs = take-append-drop place jobs in (
+pub put_new : {A : Type 0} (jobs : List (Job A)) (index : ℕ) (job : Job A) → GrowsBy (λ (one : Job A). one ≡ job) jobs (take index jobs ++ job ∷ drop index jobs)
+put_new jobs index job one =
+    let whole : take index jobs ++ drop index jobs ≡ jobs = take-append-drop index jobs in (
       (λ h. ⊎_elim
-          (λ (front : Contains (take place jobs) one). inl (subst (λ jobs. Contains jobs one) whole (Contains-append_left (take place jobs) (drop place jobs) one front)))
-          (λ (back : Contains (job ∷ drop place jobs) one). ⊎_elim
+          (λ (front : Contains (take index jobs) one). inl (subst (λ jobs. Contains jobs one) whole (Contains-append_left (take index jobs) (drop index jobs) one front)))
+          (λ (back : Contains (job ∷ drop index jobs) one). ⊎_elim
           (λ (first : Contains (job ∷ []) one). ⊎_elim (λ (none : Contains [] one). absurd (contains_none one none))
           (λ (same : job ≡ one). inr (sym same)) (Contains-push_cases [] job one first))
-          (λ (behind : Contains (drop place jobs) one). inl (subst (λ jobs. Contains jobs one) whole (Contains-append_right (take place jobs) (drop place jobs) one behind)))
-          (Contains-append_cases (job ∷ []) (drop place jobs) one back))
-          (Contains-append_cases (take place jobs) (job ∷ drop place jobs) one h)),
+          (λ (behind : Contains (drop index jobs) one). inl (subst (λ jobs. Contains jobs one) whole (Contains-append_right (take index jobs) (drop index jobs) one behind)))
+          (Contains-append_cases (job ∷ []) (drop index jobs) one back))
+          (Contains-append_cases (take index jobs) (job ∷ drop index jobs) one h)),
       (λ h. ⊎_elim
           (λ (old : Contains jobs one). ⊎_elim
-          (λ (front : Contains (take place jobs) one). Contains-append_left (take place jobs) (job ∷ drop place jobs) one front)
-          (λ (behind : Contains (drop place jobs) one). Contains-append_right (take place jobs) (job ∷ drop place jobs) one (Contains-append_right (job ∷ []) (drop place jobs) one behind))
-          (Contains-append_cases (take place jobs) (drop place jobs) one (subst (λ jobs. Contains jobs one) (sym whole) old)))
-          (λ (new : one ≡ job). Contains-append_right (take place jobs) (job ∷ drop place jobs) one
-          (Contains-append_left (job ∷ []) (drop place jobs) one (subst (λ one. Contains (job ∷ []) one) (sym new) (Contains-push [] job)))) h),
+          (λ (front : Contains (take index jobs) one). Contains-append_left (take index jobs) (job ∷ drop index jobs) one front)
+          (λ (behind : Contains (drop index jobs) one). Contains-append_right (take index jobs) (job ∷ drop index jobs) one (Contains-append_right (job ∷ []) (drop index jobs) one behind))
+          (Contains-append_cases (take index jobs) (drop index jobs) one (subst (λ jobs. Contains jobs one) (sym whole) old)))
+          (λ (new : one ≡ job). Contains-append_right (take index jobs) (job ∷ drop index jobs) one
+          (Contains-append_left (job ∷ []) (drop index jobs) one (subst (λ one. Contains (job ∷ []) one) (sym new) (Contains-push [] job)))) h),
     )
 
 -- the job of a part, if there is one
@@ -298,7 +298,7 @@ module _ {A : Type 0} (onward : A → ℕ → A) (units : List ℕ) where
     pub weight_falls : weight (length units) after < weight (length units) left
     weight_falls =
         let a = ahead units (stands units job.part step taken.stands) in
-        let less = parts-less (length units) (part_place job.part) step.next step.rest a.within a.next a.rest in
+        let less = parts-less (length units) (part_index job.part) step.next step.rest a.within a.next a.rest in
         let all = taken.less (length units) in
         let e = weight-pushed (length units) job before in
         let f : weight (length units) left ≡ weight (length units) (before ++ job ∷ []) = ap (λ jobs. weight (length units) jobs) popped in
@@ -343,10 +343,10 @@ module _ {A : Type 0} (onward : A → ℕ → A) (units : List ℕ) where
         (λ h. (grown one).1 (⊎_elim (λ (old : Contains [] one). inl old) (λ (same : one ≡ first). inr (first.part, refl, same)) h)),
       )) none
 
-  pub ended_stuck : (first job : Job A) (left before : List (Job A)) (read now : List (A × ℤ)) (place : ℕ) → left ≡ before ++ job ∷ []
-      → part_step units job.part ≡ Err place → IsFolding onward units first left read → HasEnded onward units first now false
-  ended_stuck first job left before read now place popped e way h =
-      stuck_unreadable units place e (way.readable.1 h job (subst (λ left. Contains left job) (sym popped) (Contains-push before job)))
+  pub ended_stuck : (first job : Job A) (left before : List (Job A)) (read now : List (A × ℤ)) (index : ℕ) → left ≡ before ++ job ∷ []
+      → part_step units job.part ≡ Err index → IsFolding onward units first left read → HasEnded onward units first now false
+  ended_stuck first job left before read now index popped e way h =
+      stuck_unreadable units index e (way.readable.1 h job (subst (λ left. Contains left job) (sym popped) (Contains-push before job)))
 
   pub no_job : (jobs rest : List (Job A)) (count : ℕ) → count ≡ 0 → jobs ≡ rest ++ [] → rest ≡ take (count - 1) jobs → jobs ≡ []
   no_job jobs rest count none popped kept = popped ∙ ap (λ rest. rest ++ []) (kept ∙ ap (λ count. take (count - 1) jobs) none)

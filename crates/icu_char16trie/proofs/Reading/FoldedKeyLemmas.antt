@@ -9,7 +9,7 @@ use Rattle.std.proofs.lemmas.List.Elements.{Contains-append_left, Contains-appen
 use Rattle.std.proofs.lemmas.Option.{none-some}
 use Rattle.icu_char16trie.specs.UnitGrammar.{spot, IsSound, IsUnitTrie, IsListing}
 use Rattle.icu_char16trie.specs.UnitMaps.{MapsKey, at_node}
-use Rattle.icu_char16trie.specs.UnitPartSteps.{part_step, part_place}
+use Rattle.icu_char16trie.specs.UnitPartSteps.{part_step, part_index}
 use Rattle.icu_char16trie.specs.UnitReadingOrder.{Job as Reading, HasRoom, Reads, done, on, extended, jobs_of, noted, onward as onward_of, pairs_of}
 use Rattle.icu_char16trie.specs.KeyFolds.{AreFolded, IsReadable, readable, Spells, spelled_here, spelled_next, spelled_rest, Finds, HasEnded}
 use Rattle.icu_char16trie.specs.declared.reader.part.Part.{Part}
@@ -129,7 +129,7 @@ module _ (units : List ℕ) where
   noted-has key value v e = subst (λ value. Contains (noted key value) (key, cast_signed w32 v)) (sym e) (Contains-push [] (key, cast_signed w32 v))
 
   -- a part is read by its first step
-  step-read : (p : Part) (step : Step) (key : List ℕ) (rest : List Reading) (back : List Pair) → part_step units p ≡ Ok step → length key ≤ part_place p
+  step-read : (p : Part) (step : Step) (key : List ℕ) (rest : List Reading) (back : List Pair) → part_step units p ≡ Ok step → length key ≤ part_index p
       → (beside : AreRead step.rest key rest back) → AreRead step.next (extended key step.unit) (onward_of key step.rest ++ rest) (beside.pairs ++ back)
       → IsRead p key rest back
   step-read p step key rest back e within beside next =
@@ -185,23 +185,23 @@ module _ (units : List ℕ) where
 
   -- after a key that is not longer than where the part begins
   abbrev OnRead : Part → Type 0
-  OnRead p = (key : List ℕ) → length key ≤ part_place p → (rest : List Reading) (back : List Pair) → Reads units (length units) rest back → IsRead p key rest back
+  OnRead p = (key : List ℕ) → length key ≤ part_index p → (rest : List Reading) (back : List Pair) → Reads units (length units) rest back → IsRead p key rest back
 
-  on-read : (o : Option Part) → ((q : Part) → o ≡ Some q → OnRead q) → (key : List ℕ) → ((q : Part) → o ≡ Some q → length key ≤ part_place q)
+  on-read : (o : Option Part) → ((q : Part) → o ≡ Some q → OnRead q) → (key : List ℕ) → ((q : Part) → o ≡ Some q → length key ≤ part_index q)
       → (rest : List Reading) (back : List Pair) → Reads units (length units) rest back → AreRead o key rest back
   on-read None f key g rest back h = none-read key rest back h
   on-read (Some q) f key g rest back h = some-read q key rest back (f q refl key (g q refl) rest back h)
 
-  ahead-of : (place : ℕ) (o : Option Part) → IfSome o (λ q. place < part_place q) → (q : Part) → o ≡ Some q → place < part_place q
-  ahead-of place o h q e = subst (λ o. IfSome o (λ q. place < part_place q)) e h
+  ahead-of : (index : ℕ) (o : Option Part) → IfSome o (λ q. index < part_index q) → (q : Part) → o ≡ Some q → index < part_index q
+  ahead-of index o h q e = subst (λ o. IfSome o (λ q. index < part_index q)) e h
 
   readable-read : {p : Part} → IsReadable units p → OnRead p
   readable-read (readable p step e next-on rest-on) = λ key within rest back h.
       let a = ahead units (stands units p step e) in
       let beside = on-read step.rest (λ q same. readable-read (rest-on q same)) key
-      (λ q same. let k = ahead-of (part_place p) step.rest a.rest q same in omega (arith, k, within)) rest back h in
+      (λ q same. let k = ahead-of (part_index p) step.rest a.rest q same in omega (arith, k, within)) rest back h in
       let next = on-read step.next (λ q same. readable-read (next-on q same)) (extended key step.unit)
-      (λ q same. let k = ahead-of (part_place p) step.next a.next q same in let l = longer-by key step.unit in omega (arith, k, within, l))
+      (λ q same. let k = ahead-of (part_index p) step.next a.next q same in let l = longer-by key step.unit in omega (arith, k, within, l))
       (onward_of key step.rest ++ rest) (beside.pairs ++ back) beside.reads in
       step-read p step key rest back e within beside next
 

@@ -28,27 +28,27 @@ root = ([], part.Node 0) ∷ []
 -- after a first node with no value, all that it spells is spelled
 module _ (units : List ℕ) where
   start-is : (next : State) → IsNode units 0 None (Some next) → start units ≡ next
-  start-is next (bare place lead n e low opens) =
+  start-is next (bare index lead n e low opens) =
       ap (λ found. or_stopped (after found (λ lead. if ltb lead 0x40 then opened units lead 1 else None))) e
       ∙ ap (λ found. or_stopped found) (if_ltb lead 0x40 (opened units lead 1) None low)
       ∙ ap (λ found. or_stopped found) opens
 
   from-root : (next : State) {key : List ℕ} {number : ℤ} → IsNode units 0 None (Some next) → MapsKey units (at_node 0) key number → MapsKey units (at_state next) key number
-  from-root next node (ends place value other is) = absurd (none-some value (node_unique units node is).0)
-  from-root next node (goes_on place value other key number is rest) =
+  from-root next node (ends index value other is) = absurd (none-some value (node_unique units node is).0)
+  from-root next node (goes_on index value other key number is rest) =
       subst (λ next. MapsKey units (at_state next) key number) (sym (some-same next other (node_unique units node is).1)) rest
 
   behind-root : (next : State) (key : List ℕ) (number : ℤ) → IsNode units 0 None (Some next) → MapsKey units (at_state next) key number ↔ MapsKey units (at_node 0) key number
   behind-root next key number node = ((λ h. goes_on 0 None next key number node h), (λ h. from-root next node h))
 
   no-node : units ≡ [] → {value : Option ℕ} {next : Option State} → IsNode units 0 value next → ⊥
-  no-node none (final place lead number e high reads) = none-some lead (sym (ap (λ units. slice_get units 0) none) ∙ e)
-  no-node none (valued place lead number next e low high reads opens) = none-some lead (sym (ap (λ units. slice_get units 0) none) ∙ e)
-  no-node none (bare place lead next e low opens) = none-some lead (sym (ap (λ units. slice_get units 0) none) ∙ e)
+  no-node none (final index lead number e high reads) = none-some lead (sym (ap (λ units. slice_get units 0) none) ∙ e)
+  no-node none (valued index lead number next e low high reads opens) = none-some lead (sym (ap (λ units. slice_get units 0) none) ∙ e)
+  no-node none (bare index lead next e low opens) = none-some lead (sym (ap (λ units. slice_get units 0) none) ∙ e)
 
   no-spells : units ≡ [] → {key : List ℕ} {number : ℤ} → MapsKey units (at_node 0) key number → ⊥
-  no-spells none (ends place value next node) = no-node none node
-  no-spells none (goes_on place value next key number node rest) = no-node none node
+  no-spells none (ends index value next node) = no-node none node
+  no-spells none (goes_on index value next key number node rest) = no-node none node
 
   empty-spells : units ≡ [] → (key : List ℕ) (number : ℤ) → MapsKey units (at_state (start units)) key number ↔ MapsKey units (at_node 0) key number
   empty-spells none key number = (
@@ -87,10 +87,10 @@ listing_of units limit lead pairs is low reads =
     }
 
 -- units that are refused break the grammar or spell a longer key
-pub refused : (units : List ℕ) (limit lead place : ℕ) → slice_get units 0 ≡ Some lead → StopsIn units limit root place → IsUnitTrie units → IsWithin units limit → ⊥
-refused units limit lead place is stops trie bound =
+pub refused : (units : List ℕ) (limit lead index : ℕ) → slice_get units 0 ≡ Some lead → StopsIn units limit root index → IsUnitTrie units → IsWithin units limit → ⊥
+refused units limit lead index is stops trie bound =
     let sound : IsSound units (spot (at_node 0)) = (trie-root units lead is trie).1 in
-    reads_stops units limit place
+    reads_stops units limit index
     (sound-reads units limit sound [] [] [] (fits-all limit (listing units sound) (λ key number h. bound key number (listed_spelled units sound key number h))) done)
     stops
 
@@ -125,8 +125,8 @@ module _ (units : List ℕ) (limit lead : ℕ) (left : List Job) (is : slice_get
       subst (λ list. IsListing units limit list) (sym (same ∙ h.2 ∙ ap (λ read. read ++ h.0) none))
       (listing_of units limit lead h.0 is low (subst (λ left. Reads units limit left h.0) first h.1))
 
-  pub stops_read : (place : ℕ) → StopsIn units limit left place → StopsAt units limit place
-  stops_read place h = in_parts lead place is low (subst (λ left. StopsIn units limit left place) first h)
+  pub stops_read : (index : ℕ) → StopsIn units limit left index → StopsAt units limit index
+  stops_read index h = in_parts lead index is low (subst (λ left. StopsIn units limit left index) first h)
 
-  pub refused_read : (place : ℕ) → StopsIn units limit left place → IsUnitTrie units → IsWithin units limit → ⊥
-  refused_read place h = refused units limit lead place is (subst (λ left. StopsIn units limit left place) first h)
+  pub refused_read : (index : ℕ) → StopsIn units limit left index → IsUnitTrie units → IsWithin units limit → ⊥
+  refused_read index h = refused units limit lead index is (subst (λ left. StopsIn units limit left index) first h)

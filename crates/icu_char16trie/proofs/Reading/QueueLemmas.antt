@@ -26,10 +26,10 @@ taken units limit key longer part step before aside along after read aside-read 
 -- what was read and what is left, of what was to be read at first
 pub record IsOnWay (units : List ℕ) (limit : ℕ) (first : List Job) (begun : List (List ℕ × ℤ)) (left : List Job) (now : List (List ℕ × ℤ)) : Type 0 where
   pub reads : (pairs : List (List ℕ × ℤ)) → Reads units limit left pairs → HasRead units limit first begun (now ++ pairs)
-  pub stops : (place : ℕ) → StopsIn units limit left place → StopsIn units limit first place
+  pub stops : (index : ℕ) → StopsIn units limit left index → StopsIn units limit first index
 
 pub on_way_first : (units : List ℕ) (limit : ℕ) (first : List Job) (begun : List (List ℕ × ℤ)) → IsOnWay units limit first begun first begun
-on_way_first units limit first begun = record { reads = λ pairs h. (pairs, h, refl); stops = λ place h. h }
+on_way_first units limit first begun = record { reads = λ pairs h. (pairs, h, refl); stops = λ index h. h }
 
 -- the pop of a part, and what its taking up left
 module _ (units : List ℕ) (limit : ℕ) (first : List Job) (begun : List (List ℕ × ℤ)) (key : List ℕ) (part : Part) (left before after : List Job) (read now : List (List ℕ × ℤ))
@@ -42,13 +42,13 @@ module _ (units : List ℕ) (limit : ℕ) (first : List Job) (begun : List (List
         (way.reads (pairs_of key h.step ++ pairs)
         (subst (λ left. Reads units limit left (pairs_of key h.step ++ pairs)) (sym popped)
         (on key part h.step before pairs h.stands h.room (subst (λ after. Reads units limit after pairs) h.jobs rest)))));
-    stops = λ place rest.
-        way.stops place (subst (λ left. StopsIn units limit left place) (sym popped)
-        (beyond key part h.step before place h.stands h.room (subst (λ after. StopsIn units limit after place) h.jobs rest)));
+    stops = λ index rest.
+        way.stops index (subst (λ left. StopsIn units limit left index) (sym popped)
+        (beyond key part h.step before index h.stands h.room (subst (λ after. StopsIn units limit after index) h.jobs rest)));
   }
 
-  pub on_way_stuck : (place : ℕ) → IsStuck units limit key part place → StopsIn units limit first place
-  on_way_stuck place h = way.stops place (subst (λ left. StopsIn units limit left place) (sym popped) (here key part before place h))
+  pub on_way_stuck : (index : ℕ) → IsStuck units limit key part index → StopsIn units limit first index
+  on_way_stuck index h = way.stops index (subst (λ left. StopsIn units limit left index) (sym popped) (here key part before index h))
 
 -- nothing is left
 pub on_way_end : (units : List ℕ) (limit : ℕ) (first : List Job) (begun : List (List ℕ × ℤ)) (left : List Job) (now : List (List ℕ × ℤ)) → left ≡ []

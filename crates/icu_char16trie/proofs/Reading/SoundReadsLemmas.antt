@@ -23,7 +23,7 @@ use Rattle.icu_char16trie.proofs.Grammar.ListingLemmas.{Pair, behind_unit, with_
 
 -- the rule that a part is about
 abbrev pub rule_of : Part → Rule
-rule_of (part.Node place) = spot (at_node place)
+rule_of (part.Node index) = spot (at_node index)
 rule_of (part.Run run) = spot (at_state (state.Match run))
 rule_of (part.Branch b) = within b.branch b.low b.high
 
@@ -66,47 +66,47 @@ module _ (units : List ℕ) (key : List ℕ) (rest : List Job) (pairs : List Pai
   both-under xs ys more back e f =
       e ∙ ap (λ more. under key xs ++ more) f ∙ sym (append_assoc (under key xs) (under key ys) back) ∙ ap (λ front. front ++ back) (sym (under-append key xs ys))
 
-  node-sound : (place end : ℕ) (value : Option ℕ) (next : State) → IsNode units place value (Some next) → IsBehind end next
-      → SoundJobs units (jobs_of key (node_of value (part_for next)) ++ rest) pairs → SoundJobs units ((key, part.Node place) ∷ rest) (noted key value ++ pairs)
+  node-sound : (index end : ℕ) (value : Option ℕ) (next : State) → IsNode units index value (Some next) → IsBehind end next
+      → SoundJobs units (jobs_of key (node_of value (part_for next)) ++ rest) pairs → SoundJobs units ((key, part.Node index) ∷ rest) (noted key value ++ pairs)
   unfolding listing
-  node-sound place end value (state.Stopped) node far h = absurd (none-some far.0 far.1)
-  node-sound place end value (state.Match run) node far h =
-      (sound_node place value (state.Match run) node h.0, h.1, h.2, valued-under value (listing units h.0) h.1 h.3)
-  node-sound place end value (state.Branch branch) node far h =
-      (sound_node place value (state.Branch branch) node (sound_branch branch h.0), h.1, h.2, valued-under value (listing units h.0) h.1 h.3)
+  node-sound index end value (state.Stopped) node far h = absurd (none-some far.0 far.1)
+  node-sound index end value (state.Match run) node far h =
+      (sound_node index value (state.Match run) node h.0, h.1, h.2, valued-under value (listing units h.0) h.1 h.3)
+  node-sound index end value (state.Branch branch) node far h =
+      (sound_node index value (state.Branch branch) node (sound_branch branch h.0), h.1, h.2, valued-under value (listing units h.0) h.1 h.3)
 
-  any-node-sound : {place : ℕ} {value : Option ℕ} {next : Option State} → IsNode units place value next
-      → SoundJobs units (jobs_of key (node_of value (behind_node next)) ++ rest) pairs → SoundJobs units ((key, part.Node place) ∷ rest) (noted key value ++ pairs)
+  any-node-sound : {index : ℕ} {value : Option ℕ} {next : Option State} → IsNode units index value next
+      → SoundJobs units (jobs_of key (node_of value (behind_node next)) ++ rest) pairs → SoundJobs units ((key, part.Node index) ∷ rest) (noted key value ++ pairs)
   unfolding listing
-  any-node-sound (final place lead number e high reads) h = (
-    sound_end place number.value (final place lead number e high reads),
+  any-node-sound (final index lead number e high reads) h = (
+    sound_end index number.value (final index lead number e high reads),
     pairs,
     h,
     ap (λ key'. (key', cast_signed w32 number.value) ∷ pairs) (sym (append-nil key)),
   )
-  any-node-sound (valued place lead number next e low high reads opens) h =
-      node-sound place number.end (Some number.value) next (valued place lead number next e low high reads opens) (opened-behind units (lead % 0x40) number.end next opens) h
-  any-node-sound (bare place lead next e low opens) h =
-      node-sound place (place + 1) None next (bare place lead next e low opens) (opened-behind units lead (place + 1) next opens) h
+  any-node-sound (valued index lead number next e low high reads opens) h =
+      node-sound index number.end (Some number.value) next (valued index lead number next e low high reads opens) (opened-behind units (lead % 0x40) number.end next opens) h
+  any-node-sound (bare index lead next e low opens) h =
+      node-sound index (index + 1) None next (bare index lead next e low opens) (opened-behind units lead (index + 1) next opens) h
 
-  run-sound : (run : Match) (unit : ℕ) → slice_get units run.place ≡ Some unit
+  run-sound : (run : Match) (unit : ℕ) → slice_get units run.index ≡ Some unit
       → SoundJobs units ((key ++ (unit ∷ []), run_on run) ∷ rest) pairs → SoundJobs units ((key, part.Run run) ∷ rest) pairs
   unfolding listing
   run-sound run unit e h =
-      let go : Part = part.Run (record { left = run.left - 1; place = run.place + 1 }) in
+      let go : Part = part.Run (record { left = run.left - 1; index = run.index + 1 }) in
       ⊎_elim
       (λ (more : 1 < run.left).
-      let k = subst (λ q. SoundJobs units ((key ++ (unit ∷ []), q) ∷ rest) pairs) (if_not_leb run.left 1 (part.Node (run.place + 1)) go more) h in
+      let k = subst (λ q. SoundJobs units ((key ++ (unit ∷ []), q) ∷ rest) pairs) (if_not_leb run.left 1 (part.Node (run.index + 1)) go more) h in
       (sound_run run unit e more k.0, k.1, k.2, unit-under unit (listing units k.0) k.1 k.3))
       (λ (few : run.left ≤ 1).
-      let k = subst (λ q. SoundJobs units ((key ++ (unit ∷ []), q) ∷ rest) pairs) (if_leb run.left 1 (part.Node (run.place + 1)) go few) h in
+      let k = subst (λ q. SoundJobs units ((key ++ (unit ∷ []), q) ∷ rest) pairs) (if_leb run.left 1 (part.Node (run.index + 1)) go few) h in
       (sound_run_end run unit e few k.0, k.1, k.2, unit-under unit (listing units k.0) k.1 k.3))
       (cases_lt 1 run.left)
 
   step-sound : {p : Part} {step : Step} → Stands units p step → SoundJobs units (jobs_of key step ++ rest) pairs
       → SoundJobs units ((key, p) ∷ rest) (pairs_of key step ++ pairs)
   unfolding listing
-  step-sound (node_stands place value next node) h = any-node-sound node h
+  step-sound (node_stands index value next node) h = any-node-sound node h
   step-sound (run_stands run unit e) h = run-sound run unit e h
   step-sound (last_stands b unit one e above below) h =
       (sound_last b.branch b.low b.high unit one e above below h.0, h.1, h.2, unit-under unit (listing units h.0) h.1 h.3)
@@ -116,14 +116,14 @@ module _ (units : List ℕ) (key : List ℕ) (rest : List Job) (pairs : List Pai
     h.2,
     ap (λ pairs. (key ++ (entry.unit ∷ []), cast_signed w32 value) ∷ pairs) h.3,
   )
-  step-sound (entry_stands b entry (Node place) more few e to above below) h = (
-    sound_jump b.branch b.low b.high place entry more few e to above below h.0 h.2.0,
+  step-sound (entry_stands b entry (Node index) more few e to above below) h = (
+    sound_jump b.branch b.low b.high index entry more few e to above below h.0 h.2.0,
     h.2.1,
     h.2.2,
     both-under (behind_unit entry.unit (listing units h.0)) (listing units h.2.0) h.1 h.2.1 (unit-under entry.unit (listing units h.0) h.1 h.3) h.2.3,
   )
-  step-sound (halves_stand b middle place jump many e reads lands above below) h = (
-    sound_halves b.branch b.low b.high middle place jump many e reads lands above below h.0 h.2.0,
+  step-sound (halves_stand b middle index jump many e reads lands above below) h = (
+    sound_halves b.branch b.low b.high middle index jump many e reads lands above below h.0 h.2.0,
     h.2.1,
     h.2.2,
     both-under (listing units h.0) (listing units h.2.0) h.1 h.2.1 h.3 h.2.3,

@@ -1,4 +1,4 @@
--- Keys that are not at fault are sorted, and units that lay them from their first place spell them.
+-- Keys that are not at fault are sorted, and units that lay them from their first index spell them.
 use Rattle.std.proofs.Common.{◌≡◌, ◌≢◌, ℕ, ℤ, zero, suc, ◌+◌, ◌-◌, ◌*◌, ◌^◌, ◌<◌, ◌≤◌, Bool, true, false, ◌==◌, IsTrue, slice_index_or, ◌⊎◌, ⊎_elim, inl, inr, ◌↔◌, List, [], ◌∷◌, ◌++◌, length, take, refl, ap, ◌∙◌, sym, subst, arith, Bor, Some, None, slice_get, nat_cmp}
 use Rattle.std.specs.Cmp.Lexicographic.{slice_cmp}
 use Rattle.std.specs.Cmp.{nat_cmp_is}
@@ -75,15 +75,15 @@ first_along key other (pair ∷ pairs) h k = (below_along key other pair.0 h k.0
 
 -- keys that are not at fault
 
-unsorted_behind : (pair : List ℕ × ℤ) (pairs : List (List ℕ × ℤ)) (place : ℕ) → IsUnsorted pairs place → IsUnsorted (pair ∷ pairs) (suc place)
-unsorted_behind pair pairs place h =
+unsorted_behind : (pair : List ℕ × ℤ) (pairs : List (List ℕ × ℤ)) (index : ℕ) → IsUnsorted pairs index → IsUnsorted (pair ∷ pairs) (suc index)
+unsorted_behind pair pairs index h =
     let positive = h.2 in
-    let same : suc (place - 1) ≡ suc place - 1 = omega (arith, positive) in
-    (h.0, h.1, omega arith, subst (λ place. slice_get (pair ∷ pairs) place ≡ Some h.0) same h.3, h.4, h.5)
+    let same : suc (index - 1) ≡ suc index - 1 = omega (arith, positive) in
+    (h.0, h.1, omega arith, subst (λ index. slice_get (pair ∷ pairs) index ≡ Some h.0) same h.3, h.4, h.5)
 
 none_behind : (pair : List ℕ × ℤ) (pairs : List (List ℕ × ℤ)) → NoneBefore (pair ∷ pairs) (length (pair ∷ pairs)) → NoneBefore pairs (length pairs)
-none_behind pair pairs h = λ place less fault. h (suc place) (omega (arith, less))
-    (⊎_elim (λ empty. inl empty) (λ unsorted. inr (unsorted_behind pair pairs place unsorted)) fault)
+none_behind pair pairs h = λ index less fault. h (suc index) (omega (arith, less))
+    (⊎_elim (λ empty. inl empty) (λ unsorted. inr (unsorted_behind pair pairs index unsorted)) fault)
 
 key_some : (key : List ℕ) → (key ≡ [] → ⊥) → 0 < length key
 key_some [] h = absurd (h refl)
@@ -194,13 +194,13 @@ writes_none written (pair ∷ pairs) none same = absurd (omega (arith, none))
 
 -- faults that are found one after another
 
-pub none_more : (pairs : List (List ℕ × ℤ)) (place : ℕ) → NoneBefore pairs place → (IsEmptyKey pairs place → ⊥) → (IsUnsorted pairs place → ⊥) → NoneBefore pairs (place + 1)
-none_more pairs place before some sorted = λ other less fault.
-    ⊎_elim (λ (earlier : other < place). before other earlier fault)
-    (λ (late : place ≤ other).
-    let same : other ≡ place = omega (arith, less, late) in
-    ⊎_elim (λ empty. some (subst (λ place. IsEmptyKey pairs place) same empty)) (λ unsorted. sorted (subst (λ place. IsUnsorted pairs place) same unsorted)) fault)
-    (cases_lt other place)
+pub none_more : (pairs : List (List ℕ × ℤ)) (index : ℕ) → NoneBefore pairs index → (IsEmptyKey pairs index → ⊥) → (IsUnsorted pairs index → ⊥) → NoneBefore pairs (index + 1)
+none_more pairs index before some sorted = λ other less fault.
+    ⊎_elim (λ (earlier : other < index). before other earlier fault)
+    (λ (late : index ≤ other).
+    let same : other ≡ index = omega (arith, less, late) in
+    ⊎_elim (λ empty. some (subst (λ index. IsEmptyKey pairs index) same empty)) (λ unsorted. sorted (subst (λ index. IsUnsorted pairs index) same unsorted)) fault)
+    (cases_lt other index)
 
 true_not_false : true ≡ false → ⊥
 true_not_false e = cc
@@ -208,11 +208,11 @@ true_not_false e = cc
 not_zero : (n : ℕ) → 0 < n → (n == 0) ≡ false
 not_zero n h = grind arith
 
-pub keyed_at : (pairs : List (Bor (List ℕ) × ℤ)) (place : ℕ) (d : Bor (List ℕ) × ℤ) → place < length pairs
-    → slice_get (keyed pairs) place ≡ Some ((slice_index_or pairs place d).0.now, (slice_index_or pairs place d).1)
-keyed_at [] place d less = absurd (omega (arith, less))
+pub keyed_at : (pairs : List (Bor (List ℕ) × ℤ)) (index : ℕ) (d : Bor (List ℕ) × ℤ) → index < length pairs
+    → slice_get (keyed pairs) index ≡ Some ((slice_index_or pairs index d).0.now, (slice_index_or pairs index d).1)
+keyed_at [] index d less = absurd (omega (arith, less))
 keyed_at (pair ∷ pairs) zero d less = refl
-keyed_at (pair ∷ pairs) (suc place) d less = keyed_at pairs place d (omega (arith, less))
+keyed_at (pair ∷ pairs) (suc index) d less = keyed_at pairs index d (omega (arith, less))
 
 pub keyed_length : (pairs : List (Bor (List ℕ) × ℤ)) → length (keyed pairs) ≡ length pairs
 keyed_length pairs = length-map pairs (λ pair. (pair.0.now, pair.1))
@@ -231,44 +231,44 @@ key_not_none (unit ∷ units) b e f same = let l = ap length same in omega (arit
 pub untrue : (b : Bool) {P : Type 0} → IsTrue b ↔ P → b ≡ false → P → ⊥
 untrue b h f p = true_not_false (sym (h.1 p) ∙ f)
 
-module _ (pairs : List (Bor (List ℕ) × ℤ)) (place : ℕ) (d : Bor (List ℕ) × ℤ) (less : place < length pairs) where
-  pub empty_at : (slice_index_or pairs place d).0.now ≡ [] → IsEmptyKey (keyed pairs) place
-  empty_at e = ((slice_index_or pairs place d).1, keyed_at pairs place d less ∙ ap (λ key. Some (key, (slice_index_or pairs place d).1)) e)
+module _ (pairs : List (Bor (List ℕ) × ℤ)) (index : ℕ) (d : Bor (List ℕ) × ℤ) (less : index < length pairs) where
+  pub empty_at : (slice_index_or pairs index d).0.now ≡ [] → IsEmptyKey (keyed pairs) index
+  empty_at e = ((slice_index_or pairs index d).1, keyed_at pairs index d less ∙ ap (λ key. Some (key, (slice_index_or pairs index d).1)) e)
 
-  pub not_empty_at : (b : Bool) → b ≡ (length (slice_index_or pairs place d).0.now == 0) → b ≡ false → IsEmptyKey (keyed pairs) place → ⊥
+  pub not_empty_at : (b : Bool) → b ≡ (length (slice_index_or pairs index d).0.now == 0) → b ≡ false → IsEmptyKey (keyed pairs) index → ⊥
   not_empty_at b e f h =
-      let same = some-same ((slice_index_or pairs place d).0.now, (slice_index_or pairs place d).1) ([], h.0) (sym (keyed_at pairs place d less) ∙ h.1) in
-      key_not_none (slice_index_or pairs place d).0.now b e f (ap (λ pair. pair.0) same)
+      let same = some-same ((slice_index_or pairs index d).0.now, (slice_index_or pairs index d).1) ([], h.0) (sym (keyed_at pairs index d less) ∙ h.1) in
+      key_not_none (slice_index_or pairs index d).0.now b e f (ap (λ pair. pair.0) same)
 
-  pub unsorted_at : 0 < place → (Below (slice_index_or pairs (place - 1) d).0.now (slice_index_or pairs place d).0.now → ⊥) → IsUnsorted (keyed pairs) place
+  pub unsorted_at : 0 < index → (Below (slice_index_or pairs (index - 1) d).0.now (slice_index_or pairs index d).0.now → ⊥) → IsUnsorted (keyed pairs) index
   unsorted_at positive none = (
-    ((slice_index_or pairs (place - 1) d).0.now, (slice_index_or pairs (place - 1) d).1),
-    ((slice_index_or pairs place d).0.now, (slice_index_or pairs place d).1),
+    ((slice_index_or pairs (index - 1) d).0.now, (slice_index_or pairs (index - 1) d).1),
+    ((slice_index_or pairs index d).0.now, (slice_index_or pairs index d).1),
     positive,
-    keyed_at pairs (place - 1) d (omega (arith, less)),
-    keyed_at pairs place d less,
+    keyed_at pairs (index - 1) d (omega (arith, less)),
+    keyed_at pairs index d less,
     none,
   )
 
-  pub sorted_at : Below (slice_index_or pairs (place - 1) d).0.now (slice_index_or pairs place d).0.now → IsUnsorted (keyed pairs) place → ⊥
+  pub sorted_at : Below (slice_index_or pairs (index - 1) d).0.now (slice_index_or pairs index d).0.now → IsUnsorted (keyed pairs) index → ⊥
   sorted_at below h =
-      let first = some-same ((slice_index_or pairs (place - 1) d).0.now, (slice_index_or pairs (place - 1) d).1) h.0 (sym (keyed_at pairs (place - 1) d (omega (arith, less))) ∙ h.3) in
-      let second = some-same ((slice_index_or pairs place d).0.now, (slice_index_or pairs place d).1) h.1 (sym (keyed_at pairs place d less) ∙ h.4) in
-      h.5 (subst (λ pair. Below pair.0 h.1.0) first (subst (λ pair. Below (slice_index_or pairs (place - 1) d).0.now pair.0) second below))
+      let first = some-same ((slice_index_or pairs (index - 1) d).0.now, (slice_index_or pairs (index - 1) d).1) h.0 (sym (keyed_at pairs (index - 1) d (omega (arith, less))) ∙ h.3) in
+      let second = some-same ((slice_index_or pairs index d).0.now, (slice_index_or pairs index d).1) h.1 (sym (keyed_at pairs index d less) ∙ h.4) in
+      h.5 (subst (λ pair. Below pair.0 h.1.0) first (subst (λ pair. Below (slice_index_or pairs (index - 1) d).0.now pair.0) second below))
 
-pub first_sorted : (pairs : List (List ℕ × ℤ)) (place : ℕ) → place ≤ 0 → IsUnsorted pairs place → ⊥
-first_sorted pairs place none h = let positive = h.2 in omega (arith, none, positive)
+pub first_sorted : (pairs : List (List ℕ × ℤ)) (index : ℕ) → index ≤ 0 → IsUnsorted pairs index → ⊥
+first_sorted pairs index none h = let positive = h.2 in omega (arith, none, positive)
 
-pub none_all : (pairs : List (Bor (List ℕ) × ℤ)) (place : ℕ) → NoneBefore (keyed pairs) place → length pairs ≤ place → NoneBefore (keyed pairs) (length (keyed pairs))
-none_all pairs place h all = λ other less fault. let l = keyed_length pairs in h other (omega (arith, less, l, all)) fault
+pub none_all : (pairs : List (Bor (List ℕ) × ℤ)) (index : ℕ) → NoneBefore (keyed pairs) index → length pairs ≤ index → NoneBefore (keyed pairs) (length (keyed pairs))
+none_all pairs index h all = λ other less fault. let l = keyed_length pairs in h other (omega (arith, less, l, all)) fault
 
 total_push : (pairs : List (Bor (List ℕ) × ℤ)) (pair : Bor (List ℕ) × ℤ) → total (keyed (pairs ++ pair ∷ [])) ≡ total (keyed pairs) + length pair.0.now
 total_push [] pair = omega arith
 total_push (first ∷ pairs) pair = let r = total_push pairs pair in omega (arith, r)
 
-pub total_more : (pairs : List (Bor (List ℕ) × ℤ)) (place : ℕ) (d : Bor (List ℕ) × ℤ) → place < length pairs
-    → total (keyed (take (place + 1) pairs)) ≡ total (keyed (take place pairs)) + length (slice_index_or pairs place d).0.now
-total_more pairs place d less = ap (λ pairs. total (keyed pairs)) (take_more pairs place d less) ∙ total_push (take place pairs) (slice_index_or pairs place d)
+pub total_more : (pairs : List (Bor (List ℕ) × ℤ)) (index : ℕ) (d : Bor (List ℕ) × ℤ) → index < length pairs
+    → total (keyed (take (index + 1) pairs)) ≡ total (keyed (take index pairs)) + length (slice_index_or pairs index d).0.now
+total_more pairs index d less = ap (λ pairs. total (keyed pairs)) (take_more pairs index d less) ∙ total_push (take index pairs) (slice_index_or pairs index d)
 
 pub total_least : (pairs : List (Bor (List ℕ) × ℤ)) (n : ℕ) → total (keyed (take n pairs)) ≤ total (keyed pairs)
 total_least [] zero = omega arith

@@ -13,7 +13,7 @@ use Rattle.icu_char16trie.proofs.Writing.NumberFormLemmas.{reads_number, reads_i
 use Rattle.icu_char16trie.proofs.Pairs.SortedPairLemmas.{rests_length, sorted_longer, sorted_run, room_append, room_behind, room_run}
 use Rattle.icu_char16trie.proofs.Pairs.GroupLemmas.{groups_bounds, groups_wider, groups_halved, spread_append}
 
--- what stands at no place
+-- what stands at no index
 abbrev pub no_key : Bor (List ℕ) × ℤ
 no_key = (record { ref_ptr = (0, 0); now = [] }, pos 0)
 
@@ -219,7 +219,7 @@ halves_of unit pairs lowers groups all e some g =
           (omega (arith, b, some), c.1.1, c.0, c.1);
     }
 
--- the same of groups that are halved at a place
+-- the same of groups that are halved at an index
 pub halves_at : (depth n : ℕ) (groups lower upper : List Group) (d : Group) → lower ≡ take n groups → upper ≡ drop n groups → 0 < length lower → 0 < length upper
     → AreGroups 0 0x10000 (parts depth groups) → Halves (slice_index_or upper 0 d).unit (parts depth lower) (parts depth upper) (parts depth groups)
 halves_at depth n groups lower [] d l u some_lower some_upper g = absurd (omega (arith, some_upper))

@@ -29,15 +29,15 @@ pub record SpotMeans (units : List ℕ) (from : Spot) (pairs : List (List ℕ ×
   pub sound : IsSound units (spot from)
 
 -- what follows the type of a node
-pub record FollowsMeans (units : List ℕ) (place kind : ℕ) (pairs : List (List ℕ × ℤ)) : Type 0 where
+pub record FollowsMeans (units : List ℕ) (index kind : ℕ) (pairs : List (List ℕ × ℤ)) : Type 0 where
   pub next : State
-  pub opens : opened units kind place ≡ Some next
+  pub opens : opened units kind index ≡ Some next
   pub means : SpotMeans units (at_state next) pairs
 
 -- a branch unit leads to these pairs
 abbrev pub TargetMeans : List ℕ → Target → List (List ℕ × ℤ) → Type 0
 TargetMeans units (Value value) pairs = pairs ≡ ([], cast_signed w32 value) ∷ []
-TargetMeans units (Node place) pairs = SpotMeans units (at_node place) pairs
+TargetMeans units (Node index) pairs = SpotMeans units (at_node index) pairs
 
 -- the group is among these
 abbrev pub HasGroup : List (ℕ × List (List ℕ × ℤ)) → ℕ → List (List ℕ × ℤ) → Type 0
@@ -52,70 +52,70 @@ pub record WithinMeans (units : List ℕ) (branch : Branch) (low high : ℕ) (gr
   pub some : 0 < length groups
   pub sound : IsSound units (grammar.within branch low high)
 
-pub final_means : (units : List ℕ) (place number : ℕ) (rest : List ℕ) → drop place units ≡ number_form 0x8000 number ++ rest
-    → SpotMeans units (at_node place) (([], cast_signed w32 number) ∷ [])
-final_means units place number rest e =
-    let r = reads_number units place 0x8000 number rest e in
+pub final_means : (units : List ℕ) (index number : ℕ) (rest : List ℕ) → drop index units ≡ number_form 0x8000 number ++ rest
+    → SpotMeans units (at_node index) (([], cast_signed w32 number) ∷ [])
+final_means units index number rest e =
+    let r = reads_number units index 0x8000 number rest e in
     let value : Number = record { value = number; end = r.end } in
     let lead : 0x8000 + r.lead - 0x8000 ≡ r.lead = omega arith in
-    let node : IsNode units place (Some number) None = final place (0x8000 + r.lead) value r.at (omega arith)
-    (ap (λ lead. final_number units lead (place + 1)) lead ∙ r.reads) in
+    let node : IsNode units index (Some number) None = final index (0x8000 + r.lead) value r.at (omega arith)
+    (ap (λ lead. final_number units lead (index + 1)) lead ∙ r.reads) in
     record {
       spelled = λ key n h. ⊎_elim (λ here. inl (sym here.0, here.1)) (λ rest. absurd (stopped_none units key n rest))
           (subst (λ o. Says units o key n) (node-is units node) (node_forth units h));
-      spells = λ key n h. ⊎_elim (λ here. ends-here units place number None key n node (sym here.0, here.1)) (λ none. absurd none) h;
-      whole = whole_end place number node;
-      sound = sound_end place number node;
+      spells = λ key n h. ⊎_elim (λ here. ends-here units index number None key n node (sym here.0, here.1)) (λ none. absurd none) h;
+      whole = whole_end index number node;
+      sound = sound_end index number node;
     }
 
-pub valued_means : (units : List ℕ) (place kind number : ℕ) (rest : List ℕ) (pairs : List (List ℕ × ℤ)) (reads : ReadsIntermediate units place kind number rest)
-    → FollowsMeans units reads.end kind pairs → SpotMeans units (at_node place) (([], cast_signed w32 number) ∷ pairs)
-valued_means units place kind number rest pairs r f =
+pub valued_means : (units : List ℕ) (index kind number : ℕ) (rest : List ℕ) (pairs : List (List ℕ × ℤ)) (reads : ReadsIntermediate units index kind number rest)
+    → FollowsMeans units reads.end kind pairs → SpotMeans units (at_node index) (([], cast_signed w32 number) ∷ pairs)
+valued_means units index kind number rest pairs r f =
     let value : Number = record { value = number; end = r.end } in
-    let node : IsNode units place (Some number) (Some f.next) = valued place r.lead value f.next r.at r.low r.high r.reads
+    let node : IsNode units index (Some number) (Some f.next) = valued index r.lead value f.next r.at r.low r.high r.reads
     (ap (λ kind. opened units kind r.end) r.of ∙ f.opens) in
     record {
       spelled = λ key n h. ⊎_elim (λ here. inl (sym here.0, here.1)) (λ rest. inr (f.means.spelled key n rest))
           (subst (λ o. Says units o key n) (node-is units node) (node_forth units h));
-      spells = λ key n h. ⊎_elim (λ here. ends-here units place number (Some f.next) key n node (sym here.0, here.1))
-          (λ rest. goes_on place (Some number) f.next key n node (f.means.spells key n rest)) h;
-      whole = whole_node place (Some number) f.next node f.means.whole;
-      sound = sound_node place (Some number) f.next node f.means.sound;
+      spells = λ key n h. ⊎_elim (λ here. ends-here units index number (Some f.next) key n node (sym here.0, here.1))
+          (λ rest. goes_on index (Some number) f.next key n node (f.means.spells key n rest)) h;
+      whole = whole_node index (Some number) f.next node f.means.whole;
+      sound = sound_node index (Some number) f.next node f.means.sound;
     }
 
-pub bare_node : (units : List ℕ) (place kind : ℕ) (rest : List ℕ) (pairs : List (List ℕ × ℤ)) → drop place units ≡ kind ∷ rest → kind < 0x40
-    → (f : FollowsMeans units (place + 1) kind pairs) → IsNode units place None (Some f.next)
-bare_node units place kind rest pairs e low f = bare place kind f.next (unit_at units place kind rest e) low f.opens
+pub bare_node : (units : List ℕ) (index kind : ℕ) (rest : List ℕ) (pairs : List (List ℕ × ℤ)) → drop index units ≡ kind ∷ rest → kind < 0x40
+    → (f : FollowsMeans units (index + 1) kind pairs) → IsNode units index None (Some f.next)
+bare_node units index kind rest pairs e low f = bare index kind f.next (unit_at units index kind rest e) low f.opens
 
-pub bare_means : (units : List ℕ) (place kind : ℕ) (rest : List ℕ) (pairs : List (List ℕ × ℤ)) → drop place units ≡ kind ∷ rest → kind < 0x40
-    → FollowsMeans units (place + 1) kind pairs → SpotMeans units (at_node place) pairs
-bare_means units place kind rest pairs e low f =
-    let node : IsNode units place None (Some f.next) = bare_node units place kind rest pairs e low f in
+pub bare_means : (units : List ℕ) (index kind : ℕ) (rest : List ℕ) (pairs : List (List ℕ × ℤ)) → drop index units ≡ kind ∷ rest → kind < 0x40
+    → FollowsMeans units (index + 1) kind pairs → SpotMeans units (at_node index) pairs
+bare_means units index kind rest pairs e low f =
+    let node : IsNode units index None (Some f.next) = bare_node units index kind rest pairs e low f in
     record {
       spelled = λ key n h. ⊎_elim (λ here. absurd here.1) (λ rest. f.means.spelled key n rest)
           (subst (λ o. Says units o key n) (node-is units node) (node_forth units h));
-      spells = λ key n h. goes_on place None f.next key n node (f.means.spells key n h);
-      whole = whole_node place None f.next node f.means.whole;
-      sound = sound_node place None f.next node f.means.sound;
+      spells = λ key n h. goes_on index None f.next key n node (f.means.spells key n h);
+      whole = whole_node index None f.next node f.means.whole;
+      sound = sound_node index None f.next node f.means.sound;
     }
 
 -- how a key goes on after a node
 abbrev TargetSpells : List ℕ → Target → List ℕ → ℤ → Type 0
 TargetSpells units (Value value) rest number = (rest ≡ []) × (cast_signed w32 value ≡ number)
-TargetSpells units (Node place) rest number = MapsKey units (at_node place) rest number
+TargetSpells units (Node index) rest number = MapsKey units (at_node index) rest number
 
 abbrev Behind : List ℕ → State → List ℕ → ℤ → Type 0
 Behind units (state.Stopped) key number = ⊥
-Behind units (state.Match run) key number = (unit : ℕ) × (rest : List ℕ) × (key ≡ unit ∷ rest) × (slice_get units run.place ≡ Some unit)
-    × (((1 < run.left) × MapsKey units (at_state (state.Match (record { left = run.left - 1; place = run.place + 1 }))) rest number)
-    ⊎ ((run.left ≤ 1) × MapsKey units (at_node (run.place + 1)) rest number))
+Behind units (state.Match run) key number = (unit : ℕ) × (rest : List ℕ) × (key ≡ unit ∷ rest) × (slice_get units run.index ≡ Some unit)
+    × (((1 < run.left) × MapsKey units (at_state (state.Match (record { left = run.left - 1; index = run.index + 1 }))) rest number)
+    ⊎ ((run.left ≤ 1) × MapsKey units (at_node (run.index + 1)) rest number))
 Behind units (state.Branch branch) key number = (unit : ℕ) × (rest : List ℕ) × (target : Target) × (key ≡ unit ∷ rest) × Leads units branch unit target × TargetSpells units target rest number
 
 behind_cases : (units : List ℕ) {next : State} {key : List ℕ} {number : ℤ} → MapsKey units (at_state next) key number → Behind units next key number
 behind_cases units (run_on run unit key number e more rest) = (unit, key, refl, e, inl (more, rest))
 behind_cases units (run_out run unit key number e few rest) = (unit, key, refl, e, inr (few, rest))
 behind_cases units (branch_value branch unit value leads) = (unit, [], Value value, refl, leads, (refl, refl))
-behind_cases units (branch_node branch unit place key number leads rest) = (unit, key, Node place, refl, leads, rest)
+behind_cases units (branch_node branch unit index key number leads rest) = (unit, key, Node index, refl, leads, rest)
 
 has_one : (unit : ℕ) (pairs : List (List ℕ × ℤ)) (key : List ℕ) (number : ℤ) → Has pairs key number → Has (prefixed (unit ∷ []) pairs) (unit ∷ key) number
 has_one unit [] key number h = h
@@ -131,11 +131,11 @@ one_has unit (pair ∷ pairs) key number h =
 has_key : (pairs : List (List ℕ × ℤ)) (key other : List ℕ) (number : ℤ) → key ≡ other → Has pairs key number → Has pairs other number
 has_key pairs key other number e h = subst (λ key. Has pairs key number) e h
 
-module _ (units : List ℕ) (place left unit : ℕ) (rest : List ℕ) (pairs : List (List ℕ × ℤ)) (e : drop place units ≡ unit ∷ rest) where
-  run_last : left ≡ 1 → SpotMeans units (at_node (place + 1)) pairs → SpotMeans units (at_state (state.Match (record { left = left; place = place }))) (prefixed (unit ∷ []) pairs)
+module _ (units : List ℕ) (index left unit : ℕ) (rest : List ℕ) (pairs : List (List ℕ × ℤ)) (e : drop index units ≡ unit ∷ rest) where
+  run_last : left ≡ 1 → SpotMeans units (at_node (index + 1)) pairs → SpotMeans units (at_state (state.Match (record { left = left; index = index }))) (prefixed (unit ∷ []) pairs)
   run_last one means =
-      let run : Match = record { left = left; place = place } in
-      let at : slice_get units place ≡ Some unit = unit_at units place unit rest e in
+      let run : Match = record { left = left; index = index } in
+      let at : slice_get units index ≡ Some unit = unit_at units index unit rest e in
       let few : left ≤ 1 = omega (arith, one) in
       record {
         spelled = λ key n h.
@@ -150,11 +150,11 @@ module _ (units : List ℕ) (place left unit : ℕ) (rest : List ℕ) (pairs : L
         sound = sound_run_end run unit at few means.sound;
       }
 
-  run_first : 1 < left → SpotMeans units (at_state (state.Match (record { left = left - 1; place = place + 1 }))) pairs
-      → SpotMeans units (at_state (state.Match (record { left = left; place = place }))) (prefixed (unit ∷ []) pairs)
+  run_first : 1 < left → SpotMeans units (at_state (state.Match (record { left = left - 1; index = index + 1 }))) pairs
+      → SpotMeans units (at_state (state.Match (record { left = left; index = index }))) (prefixed (unit ∷ []) pairs)
   run_first many means =
-      let run : Match = record { left = left; place = place } in
-      let at : slice_get units place ≡ Some unit = unit_at units place unit rest e in
+      let run : Match = record { left = left; index = index } in
+      let at : slice_get units index ≡ Some unit = unit_at units index unit rest e in
       record {
         spelled = λ key n h.
             let c = behind_cases units h in
@@ -168,26 +168,26 @@ module _ (units : List ℕ) (place left unit : ℕ) (rest : List ℕ) (pairs : L
         sound = sound_run run unit at many means.sound;
       }
 
-run_means : (run : List ℕ) (unit : ℕ) (units : List ℕ) (place left : ℕ) (rest : List ℕ) (pairs : List (List ℕ × ℤ)) → left ≡ length run + 1 → drop place units ≡ unit ∷ (run ++ rest)
+run_means : (run : List ℕ) (unit : ℕ) (units : List ℕ) (index left : ℕ) (rest : List ℕ) (pairs : List (List ℕ × ℤ)) → left ≡ length run + 1 → drop index units ≡ unit ∷ (run ++ rest)
     → ((at : ℕ) → drop at units ≡ rest → SpotMeans units (at_node at) pairs)
-    → SpotMeans units (at_state (state.Match (record { left = left; place = place }))) (prefixed (unit ∷ run) pairs)
-run_means [] unit units place left rest pairs l e means =
-    run_last units place left unit rest pairs e (omega (arith, l)) (means (place + 1) (behind_unit units place unit rest e))
-run_means (second ∷ run) unit units place left rest pairs l e means =
-    subst (λ pairs. SpotMeans units (at_state (state.Match (record { left = left; place = place }))) pairs) (sym (prefixed_more unit (second ∷ run) pairs))
-    (run_first units place left unit (second ∷ (run ++ rest)) (prefixed (second ∷ run) pairs) e (omega (arith, l))
-    (run_means run second units (place + 1) (left - 1) rest pairs (omega (arith, l)) (behind_unit units place unit (second ∷ (run ++ rest)) e) means))
+    → SpotMeans units (at_state (state.Match (record { left = left; index = index }))) (prefixed (unit ∷ run) pairs)
+run_means [] unit units index left rest pairs l e means =
+    run_last units index left unit rest pairs e (omega (arith, l)) (means (index + 1) (behind_unit units index unit rest e))
+run_means (second ∷ run) unit units index left rest pairs l e means =
+    subst (λ pairs. SpotMeans units (at_state (state.Match (record { left = left; index = index }))) pairs) (sym (prefixed_more unit (second ∷ run) pairs))
+    (run_first units index left unit (second ∷ (run ++ rest)) (prefixed (second ∷ run) pairs) e (omega (arith, l))
+    (run_means run second units (index + 1) (left - 1) rest pairs (omega (arith, l)) (behind_unit units index unit (second ∷ (run ++ rest)) e) means))
 
-pub run_follows : (units : List ℕ) (place : ℕ) (run rest : List ℕ) (pairs : List (List ℕ × ℤ)) → 0 < length run → drop place units ≡ run ++ rest
-    → ((at : ℕ) → drop at units ≡ rest → SpotMeans units (at_node at) pairs) → FollowsMeans units place (0x2f + length run) (prefixed run pairs)
-run_follows units place [] rest pairs some e means = absurd (omega (arith, some))
-run_follows units place (unit ∷ run) rest pairs some e means =
+pub run_follows : (units : List ℕ) (index : ℕ) (run rest : List ℕ) (pairs : List (List ℕ × ℤ)) → 0 < length run → drop index units ≡ run ++ rest
+    → ((at : ℕ) → drop at units ≡ rest → SpotMeans units (at_node at) pairs) → FollowsMeans units index (0x2f + length run) (prefixed run pairs)
+run_follows units index [] rest pairs some e means = absurd (omega (arith, some))
+run_follows units index (unit ∷ run) rest pairs some e means =
     let kind : ℕ = 0x2f + length (unit ∷ run) in
     record {
-      next = state.Match (record { left = kind - 0x2f; place = place });
-      opens = if_leb 0x30 kind (Some (state.Match (record { left = kind - 0x2f; place = place })))
-          (if kind == 0 then after (slice_get units place) (λ last. Some (state.Branch (record { count = last + 1; place = place + 1 }))) else Some (state.Branch (record { count = kind + 1; place = place }))) (omega arith);
-      means = run_means run unit units place (kind - 0x2f) rest pairs (omega arith) e means;
+      next = state.Match (record { left = kind - 0x2f; index = index });
+      opens = if_leb 0x30 kind (Some (state.Match (record { left = kind - 0x2f; index = index })))
+          (if kind == 0 then after (slice_get units index) (λ last. Some (state.Branch (record { count = last + 1; index = index + 1 }))) else Some (state.Branch (record { count = kind + 1; index = index }))) (omega arith);
+      means = run_means run unit units index (kind - 0x2f) rest pairs (omega arith) e means;
     }
 
 has_left : (xs ys : List (List ℕ × ℤ)) (key : List ℕ) (number : ℤ) → Has xs key number → Has (xs ++ ys) key number
@@ -225,21 +225,21 @@ spread_has (group ∷ groups) key number h =
 target_has : (units : List ℕ) (target : Target) (pairs : List (List ℕ × ℤ)) (rest : List ℕ) (number : ℤ) → TargetMeans units target pairs → TargetSpells units target rest number
     → Has pairs rest number
 target_has units (Value value) pairs rest number means h = subst (λ pairs. Has pairs rest number) (sym means) (inl (sym h.0, h.1))
-target_has units (Node place) pairs rest number means h = means.spelled rest number h
+target_has units (Node index) pairs rest number means h = means.spelled rest number h
 
 target_spells : (units : List ℕ) (target : Target) (pairs : List (List ℕ × ℤ)) (rest : List ℕ) (number : ℤ) → TargetMeans units target pairs → Has pairs rest number
     → TargetSpells units target rest number
 target_spells units (Value value) pairs rest number means h =
     let one : Has (([], cast_signed w32 value) ∷ []) rest number = subst (λ pairs. Has pairs rest number) means h in
     ⊎_elim (λ here. (sym here.0, here.1)) (λ none. absurd none) one
-target_spells units (Node place) pairs rest number means h = means.spells rest number h
+target_spells units (Node index) pairs rest number means h = means.spells rest number h
 
 led_spells : (units : List ℕ) (branch : Branch) (unit : ℕ) (target : Target) (rest : List ℕ) (number : ℤ) → Leads units branch unit target → TargetSpells units target rest number
     → MapsKey units (at_state (state.Branch branch)) (unit ∷ rest) number
 led_spells units branch unit (Value value) rest number leads h =
     subst (λ rest. MapsKey units (at_state (state.Branch branch)) (unit ∷ rest) number) (sym h.0)
     (subst (λ number. MapsKey units (at_state (state.Branch branch)) (unit ∷ []) number) h.1 (branch_value branch unit value leads))
-led_spells units branch unit (Node place) rest number leads h = branch_node branch unit place rest number leads h
+led_spells units branch unit (Node index) rest number leads h = branch_node branch unit index rest number leads h
 
 first_group : (groups : List (ℕ × List (List ℕ × ℤ))) → 0 < length groups → (unit : ℕ) × (pairs : List (List ℕ × ℤ)) × HasGroup groups unit pairs
 first_group [] some = absurd (omega (arith, some))
@@ -259,27 +259,27 @@ branch_means units branch groups w =
           let t = w.leads_to s.0 s.1 s.3 in
           subst (λ key. MapsKey units (at_state (state.Branch branch)) key n) (sym s.4)
           (led_spells units branch s.0 t.0 s.2 n t.1 (target_spells units t.0 s.1 s.2 n t.2 s.5));
-      whole = whole_branch branch first.0 leading.0 leading.1 (λ other place leads. let m = w.leads other (Node place) leads in m.2.whole);
+      whole = whole_branch branch first.0 leading.0 leading.1 (λ other index leads. let m = w.leads other (Node index) leads in m.2.whole);
       sound = sound_branch branch w.sound;
     }
 
-pub few_follows : (units : List ℕ) (place kind : ℕ) (groups : List (ℕ × List (List ℕ × ℤ))) → 0 < kind → kind < 0x30 → length groups ≡ kind + 1
-    → WithinMeans units (record { count = length groups; place = place }) 0 0x10000 groups → FollowsMeans units place kind (spread groups)
-few_follows units place kind groups some few l w =
-    let many : Option State = after (slice_get units place) (λ last. Some (state.Branch (record { count = last + 1; place = place + 1 }))) in
+pub few_follows : (units : List ℕ) (index kind : ℕ) (groups : List (ℕ × List (List ℕ × ℤ))) → 0 < kind → kind < 0x30 → length groups ≡ kind + 1
+    → WithinMeans units (record { count = length groups; index = index }) 0 0x10000 groups → FollowsMeans units index kind (spread groups)
+few_follows units index kind groups some few l w =
+    let many : Option State = after (slice_get units index) (λ last. Some (state.Branch (record { count = last + 1; index = index + 1 }))) in
     record {
-      next = state.Branch (record { count = length groups; place = place });
-      opens = if_not_leb 0x30 kind (Some (state.Match (record { left = kind - 0x2f; place = place }))) (if kind == 0 then many else Some (state.Branch (record { count = kind + 1; place = place }))) few
-          ∙ if_not_eq kind 0 many (Some (state.Branch (record { count = kind + 1; place = place }))) (λ none. omega (arith, none, some))
-          ∙ ap (λ count. Some (state.Branch (record { count = count; place = place }))) (sym l);
-      means = branch_means units (record { count = length groups; place = place }) groups w;
+      next = state.Branch (record { count = length groups; index = index });
+      opens = if_not_leb 0x30 kind (Some (state.Match (record { left = kind - 0x2f; index = index }))) (if kind == 0 then many else Some (state.Branch (record { count = kind + 1; index = index }))) few
+          ∙ if_not_eq kind 0 many (Some (state.Branch (record { count = kind + 1; index = index }))) (λ none. omega (arith, none, some))
+          ∙ ap (λ count. Some (state.Branch (record { count = count; index = index }))) (sym l);
+      means = branch_means units (record { count = length groups; index = index }) groups w;
     }
 
-pub many_follows : (units : List ℕ) (place last : ℕ) (rest : List ℕ) (groups : List (ℕ × List (List ℕ × ℤ))) → length groups ≡ last + 1 → drop place units ≡ last ∷ rest
-    → WithinMeans units (record { count = length groups; place = place + 1 }) 0 0x10000 groups → FollowsMeans units place 0 (spread groups)
-many_follows units place last rest groups l e w = record {
-  next = state.Branch (record { count = length groups; place = place + 1 });
-  opens = ap (λ found. after found (λ last. Some (state.Branch (record { count = last + 1; place = place + 1 })))) (unit_at units place last rest e)
-      ∙ ap (λ count. Some (state.Branch (record { count = count; place = place + 1 }))) (sym l);
-  means = branch_means units (record { count = length groups; place = place + 1 }) groups w;
+pub many_follows : (units : List ℕ) (index last : ℕ) (rest : List ℕ) (groups : List (ℕ × List (List ℕ × ℤ))) → length groups ≡ last + 1 → drop index units ≡ last ∷ rest
+    → WithinMeans units (record { count = length groups; index = index + 1 }) 0 0x10000 groups → FollowsMeans units index 0 (spread groups)
+many_follows units index last rest groups l e w = record {
+  next = state.Branch (record { count = length groups; index = index + 1 });
+  opens = ap (λ found. after found (λ last. Some (state.Branch (record { count = last + 1; index = index + 1 })))) (unit_at units index last rest e)
+      ∙ ap (λ count. Some (state.Branch (record { count = count; index = index + 1 }))) (sym l);
+  means = branch_means units (record { count = length groups; index = index + 1 }) groups w;
 }

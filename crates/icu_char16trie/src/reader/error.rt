@@ -7,7 +7,7 @@ use std::fmt;
 #[derive(Clone, Copy, Debug, PartialEq, Eq, Drop)]
 pub enum ReadUnitsError {
     /// The units break the grammar of unit tries, or a key in them is too long. Reading stops at the
-    /// place, counted in units from the first.
+    /// index, counted in units from the first.
     BadUnits(usize),
     /// Out of memory.
     Memory,
@@ -21,7 +21,7 @@ impl fmt::Display for ReadUnitsError {
 
     fn fmt<W: fmt::Write>(&self, f: &mut fmt::Formatter<W>) -> fmt::Result {
         match *self {
-            ReadUnitsError::BadUnits(place) => write!(f, "bad units at {place}"),
+            ReadUnitsError::BadUnits(index) => write!(f, "bad units at {index}"),
             ReadUnitsError::Memory => f.write_str("out of memory"),
         }
     }

@@ -5,11 +5,11 @@ ghost use Rattle.std.specs.Int.{cast_signed, w32};
 ghost use Rattle.std.specs.List.{Contains};
 ghost use Rattle.icu_char16trie.specs.KeyFolds.{AreFolded, GrowsBy, HasEnded, HasTakenUp, IsFolding, folded_on, part_weight, weight};
 ghost use Rattle.icu_char16trie.specs.UnitGrammar.{IsUnitTrie};
-ghost use Rattle.icu_char16trie.specs.UnitPartSteps.{part_place};
+ghost use Rattle.icu_char16trie.specs.UnitPartSteps.{part_index};
 ghost use Rattle.icu_char16trie.specs.declared.reader.folds.Job.{Job};
 
 use super::super::cells::unit_at;
-use super::part::{Part, part_place, part_step};
+use super::part::{Part, part_index, part_step};
 use icu_packed_vector::PackedVec;
 use std::alloc::{AllocError, Global};
 
@@ -44,11 +44,11 @@ fn is_same_part(one: Part, other: Part) -> bool
     ensures { IsTrue result → one ≡ other }
 {
     match (one, other) {
-        (Part::Node(place), Part::Node(place2)) => place == place2,
-        (Part::Run(run), Part::Run(run2)) => run.left == run2.left && run.place == run2.place,
+        (Part::Node(index), Part::Node(index2)) => index == index2,
+        (Part::Run(run), Part::Run(run2)) => run.left == run2.left && run.index == run2.index,
         (Part::Branch(b), Part::Branch(b2)) => {
             b.branch.count == b2.branch.count
-                && b.branch.place == b2.branch.place
+                && b.branch.index == b2.branch.index
                 && b.low == b2.low
                 && b.high == b2.high
         }
@@ -64,7 +64,7 @@ fn is_same_job<F: KeyFold>(fold: &F, one: &Job<F::Folded>, other: &Job<F::Folded
 }
 
 /// Where a job is put in, behind those whose parts begin later; `None` if it is there already.
-fn place_for<F: KeyFold>(jobs: &[Job<F::Folded>], fold: &F, job: &Job<F::Folded>) -> Option<usize>
+fn index_for<F: KeyFold>(jobs: &[Job<F::Folded>], fold: &F, job: &Job<F::Folded>) -> Option<usize>
     ensures { MatchOption result (Contains jobs.now job.now) (λ at. at ≤ length jobs.now) }
 {
     let mut at = jobs.len();
@@ -73,7 +73,7 @@ fn place_for<F: KeyFold>(jobs: &[Job<F::Folded>], fold: &F, job: &Job<F::Folded>
         if is_same_job(fold, other, job) {
             return None;
         }
-        if part_place(other.part) > part_place(job.part) {
+        if part_index(other.part) > part_index(job.part) {
             return Some(at);
         }
         at -= 1;
@@ -88,9 +88,9 @@ fn put_job<F: KeyFold>(
     job: Job<F::Folded>,
 ) -> Result<(), AllocError>
     ensures grown { OnOk result (GrowsBy (λ other. other ≡ job) jobs.old.items jobs.new.items) }
-    ensures weight { OnOk result ((size : ℕ) → weight size jobs.new.items ≤ weight size jobs.old.items + 3 ^ (size - part_place job.part)) }
+    ensures weight { OnOk result ((size : ℕ) → weight size jobs.new.items ≤ weight size jobs.old.items + 3 ^ (size - part_index job.part)) }
 {
-    match place_for(jobs.as_slice(), fold, &job) {
+    match index_for(jobs.as_slice(), fold, &job) {
         Some(at) => {
             jobs.insert(at, job)?;
             Ok(())

@@ -1,6 +1,6 @@
 //! The parts of a unit trie as a reader takes them, and what stands first in each.
 ghost use Rattle.std.specs.Prelude.{◌≡◌, ◌<◌};
-ghost use Rattle.icu_char16trie.specs.UnitPartSteps.{part_for, node_step, run_step, last_step, entry_step, halves_step, part_step, part_place};
+ghost use Rattle.icu_char16trie.specs.UnitPartSteps.{part_for, node_step, run_step, last_step, entry_step, halves_step, part_step, part_index};
 
 use super::super::cells::{delta, final_number, intermediate_number, landing, unit_at};
 use super::super::node::{Branch, Match, State, Target, entry_at, entry_target, opened};
@@ -17,7 +17,7 @@ pub(super) struct Bounded {
 /// A part of a unit trie.
 #[derive(Clone, Copy)]
 pub(super) enum Part {
-    /// The node at a place.
+    /// The node at an index.
     Node(usize),
     /// Units that must match.
     Run(Match),
@@ -51,12 +51,12 @@ fn part_for(state: State) -> Option<Part>
 }
 
 /// A node: its value, and what follows it.
-pub(super) fn node_step(units: &PackedVec<'_, u16>, place: usize) -> Option<Step>
-    ensures { result ≡ node_step units.now place }
+pub(super) fn node_step(units: &PackedVec<'_, u16>, index: usize) -> Option<Step>
+    ensures { result ≡ node_step units.now index }
 {
-    let lead = unit_at(units, place)?;
+    let lead = unit_at(units, index)?;
     if lead >= 0x8000 {
-        let number = final_number(units, lead - 0x8000, place + 1)?;
+        let number = final_number(units, lead - 0x8000, index + 1)?;
         return Some(Step {
             unit: None,
             value: Some(number.value),
@@ -65,7 +65,7 @@ pub(super) fn node_step(units: &PackedVec<'_, u16>, place: usize) -> Option<Step
         });
     }
     if lead >= 0x40 {
-        let number = intermediate_number(units, lead, place + 1)?;
+        let number = intermediate_number(units, lead, index + 1)?;
         let state = opened(units, lead % 0x40, number.end)?;
         return Some(Step {
             unit: None,
@@ -74,7 +74,7 @@ pub(super) fn node_step(units: &PackedVec<'_, u16>, place: usize) -> Option<Step
             rest: None,
         });
     }
-    let state = opened(units, lead, place + 1)?;
+    let state = opened(units, lead, index + 1)?;
     Some(Step {
         unit: None,
         value: None,
@@ -87,13 +87,13 @@ pub(super) fn node_step(units: &PackedVec<'_, u16>, place: usize) -> Option<Step
 fn run_step(units: &PackedVec<'_, u16>, run: Match) -> Option<Step>
     ensures { result ≡ run_step units.now run }
 {
-    let unit = unit_at(units, run.place)?;
+    let unit = unit_at(units, run.index)?;
     let next = if run.left <= 1 {
-        Part::Node(run.place + 1)
+        Part::Node(run.index + 1)
     } else {
         Part::Run(Match {
             left: run.left - 1,
-            place: run.place + 1,
+            index: run.index + 1,
         })
     };
     Some(Step {
@@ -108,17 +108,17 @@ fn run_step(units: &PackedVec<'_, u16>, run: Match) -> Option<Step>
 fn last_step(units: &PackedVec<'_, u16>, bounded: Bounded) -> Result<Step, usize>
     ensures { result ≡ last_step units.now bounded }
 {
-    let place = bounded.branch.place;
-    let Some(unit) = unit_at(units, place) else {
+    let index = bounded.branch.index;
+    let Some(unit) = unit_at(units, index) else {
         return Err(units.len());
     };
     if (unit as usize) < bounded.low || bounded.high <= unit as usize {
-        return Err(place);
+        return Err(index);
     }
     Ok(Step {
         unit: Some(unit),
         value: None,
-        next: Some(Part::Node(place + 1)),
+        next: Some(Part::Node(index + 1)),
         rest: None,
     })
 }
@@ -128,12 +128,12 @@ fn entry_step(units: &PackedVec<'_, u16>, bounded: Bounded) -> Result<Step, usiz
     requires { 1 < bounded.branch.count }
     ensures { result ≡ entry_step units.now bounded }
 {
-    let place = bounded.branch.place;
-    let Some(entry) = entry_at(units, place) else {
+    let index = bounded.branch.index;
+    let Some(entry) = entry_at(units, index) else {
         return Err(units.len());
     };
     if (entry.unit as usize) < bounded.low || bounded.high <= entry.unit as usize {
-        return Err(place);
+        return Err(index);
     }
     let Some(target) = entry_target(units, entry) else {
         return Err(units.len());
@@ -144,7 +144,7 @@ fn entry_step(units: &PackedVec<'_, u16>, bounded: Bounded) -> Result<Step, usiz
     };
     let branch = Branch {
         count: bounded.branch.count - 1,
-        place: entry.number.end,
+        index: entry.number.end,
     };
     Ok(Step {
         unit: Some(entry.unit),
@@ -163,26 +163,26 @@ fn halves_step(units: &PackedVec<'_, u16>, bounded: Bounded) -> Result<Step, usi
     ensures { result ≡ halves_step units.now bounded }
 {
     let branch = bounded.branch;
-    let Some(middle) = unit_at(units, branch.place) else {
+    let Some(middle) = unit_at(units, branch.index) else {
         return Err(units.len());
     };
     let middle = middle as usize;
     if middle <= bounded.low || bounded.high <= middle {
-        return Err(branch.place);
+        return Err(branch.index);
     }
-    let Some(jump) = delta(units, branch.place + 1) else {
+    let Some(jump) = delta(units, branch.index + 1) else {
         return Err(units.len());
     };
-    let Some(place) = landing(units, jump) else {
+    let Some(index) = landing(units, jump) else {
         return Err(units.len());
     };
     let first = Branch {
         count: branch.count / 2,
-        place,
+        index,
     };
     let second = Branch {
         count: branch.count - branch.count / 2,
-        place: jump.end,
+        index: jump.end,
     };
     Ok(Step {
         unit: None,
@@ -200,12 +200,12 @@ fn halves_step(units: &PackedVec<'_, u16>, bounded: Bounded) -> Result<Step, usi
     })
 }
 
-/// What stands first in a part, or the place where reading stops.
+/// What stands first in a part, or the index where reading stops.
 pub(super) fn part_step(units: &PackedVec<'_, u16>, part: Part) -> Result<Step, usize>
     ensures { result ≡ part_step units.now part }
 {
     match part {
-        Part::Node(place) => match node_step(units, place) {
+        Part::Node(index) => match node_step(units, index) {
             Some(step) => Ok(step),
             None => Err(units.len()),
         },
@@ -226,12 +226,12 @@ pub(super) fn part_step(units: &PackedVec<'_, u16>, part: Part) -> Result<Step, 
 }
 
 /// Where the units of a part begin.
-pub(super) fn part_place(part: Part) -> usize
-    ensures { result ≡ part_place part }
+pub(super) fn part_index(part: Part) -> usize
+    ensures { result ≡ part_index part }
 {
     match part {
-        Part::Node(place) => place,
-        Part::Run(run) => run.place,
-        Part::Branch(bounded) => bounded.branch.place,
+        Part::Node(index) => index,
+        Part::Run(run) => run.index,
+        Part::Branch(bounded) => bounded.branch.index,
     }
 }

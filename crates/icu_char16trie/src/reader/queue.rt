@@ -6,7 +6,7 @@ ghost use Rattle.icu_char16trie.specs.declared.reader.error.ReadUnitsError.TheVa
 
 use super::entry_test::EntryTest;
 use super::error::ReadUnitsError;
-use super::part::{Part, part_place, part_step};
+use super::part::{Part, part_index, part_step};
 use icu_packed_vector::PackedVec;
 use std::alloc::{AllocError, Global};
 
@@ -108,15 +108,15 @@ impl Queue {
         task: Task,
     ) -> Result<(), ReadUnitsError>
         ensures taken { IfOk result (λ _. IsTaken units.now limit task.key.items task.part (jobs_left self.old) (jobs_left self.new) (pairs_read self.old) (pairs_read self.new)) }
-        ensures stuck { (place : ℕ) → result ≡ Err (BadUnits place) → IsStuck units.now limit task.key.items task.part place }
+        ensures stuck { (index : ℕ) → result ≡ Err (BadUnits index) → IsStuck units.now limit task.key.items task.part index }
     {
         let Task { key, part } = task;
         let step = match part_step(units, part) {
             Ok(step) => step,
-            Err(place) => return Err(ReadUnitsError::BadUnits(place)),
+            Err(index) => return Err(ReadUnitsError::BadUnits(index)),
         };
         if !has_room(&key, step.unit, limit) {
-            return Err(ReadUnitsError::BadUnits(part_place(part)));
+            return Err(ReadUnitsError::BadUnits(part_index(part)));
         }
         self.put_copy(&key, step.rest)?;
         let key = extended(key, step.unit)?;
@@ -132,7 +132,7 @@ impl Queue {
         limit: usize,
     ) -> Result<(), ReadUnitsError>
         ensures read { IfOk result (λ _. HasRead units.now limit (jobs_left self.old) (pairs_read self.old) (pairs_read self.new)) }
-        ensures stops { (place : ℕ) → result ≡ Err (BadUnits place) → StopsIn units.now limit (jobs_left self.old) place }
+        ensures stops { (index : ℕ) → result ≡ Err (BadUnits index) → StopsIn units.now limit (jobs_left self.old) index }
     {
         while let Some(task) = self.tasks.pop() {
             if let Err(error) = self.take(units, limit, task) {
@@ -164,7 +164,7 @@ impl Queue {
     ) -> Result<bool, ReadUnitsError>
         requires { pairs_read self.old ≡ [] }
         ensures tested { IfOk result (λ all. HasTested units.now limit (jobs_left self.old) (T.test test.now) all) }
-        ensures stops { (place : ℕ) → result ≡ Err (BadUnits place) → StopsIn units.now limit (jobs_left self.old) place }
+        ensures stops { (index : ℕ) → result ≡ Err (BadUnits index) → StopsIn units.now limit (jobs_left self.old) index }
     {
         let mut all = true;
         while let Some(task) = self.tasks.pop() {

@@ -15,7 +15,7 @@ use Rattle.std.proofs.lemmas.Map.Steps.{list_any_congr}
 use Rattle.std.proofs.lemmas.Nat.{mul-le, div-add-mod'}
 use Rattle.std.proofs.lemmas.Slice.Eq.{bytes_eq-Decides}
 use Rattle.icu_codepointtrie.specs.Blocks.{block, blocks, different_blocks, AreKept, HasMore}
-use Rattle.icu_codepointtrie.specs.Places.{fast_limit}
+use Rattle.icu_codepointtrie.specs.Slots.{fast_limit}
 use Rattle.icu_codepointtrie.specs.Layouts.{AreFew}
 use Rattle.icu_codepointtrie.specs.declared.trie.TrieType.{TrieType}
 use Rattle.icu_codepointtrie.proofs.built.BuiltTrieLemmas.{type_facts}

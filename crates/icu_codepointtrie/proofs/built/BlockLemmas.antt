@@ -13,7 +13,7 @@ use Rattle.std.proofs.lemmas.Map.Keys.{IsDistinct-push}
 use Rattle.std.proofs.lemmas.Slice.Eq.{bytes_eq-Decides}
 use Rattle.std.proofs.lemmas.Option.{slice_get_within, get_or_from_slice_get}
 use Rattle.std.specs.Prelude.{IfSome, slice_get, Option, Some, None}
-use Rattle.icu_codepointtrie.specs.Blocks.{block, AreKept, ArePlaces, IsKeptAt, IsFound, FindsKept}
+use Rattle.icu_codepointtrie.specs.Blocks.{block, AreKept, AreSlots, IsKeptAt, IsFound, FindsKept}
 use Rattle.icu_codepointtrie.specs.declared.builder.blocks.Block.{Block}
 use Rattle.std.specs.HashMap.{HashMap}
 
@@ -52,42 +52,42 @@ pub FindsKept-none : {S : Type 0} (width : ℕ) (values kept : List ℕ) (found 
 FindsKept-none width values kept found none empty q = rw (none, empty) (λ i h. absurd (omega arith))
 
 -- no block is wanted at first
-pub ArePlaces-none : (width : ℕ) (values : List ℕ) (first : ℕ) (places kept : List ℕ) → places ≡ [] → ArePlaces width values first first places kept
-ArePlaces-none width values first places kept none = rw none record { count = omega arith; inside = λ i h. absurd (omega arith); alike = λ b from before. absurd (omega arith) }
+pub AreSlots-none : (width : ℕ) (values : List ℕ) (first : ℕ) (slots kept : List ℕ) → slots ≡ [] → AreSlots width values first first slots kept
+AreSlots-none width values first slots kept none = rw none record { count = omega arith; inside = λ i h. absurd (omega arith); alike = λ b from before. absurd (omega arith) }
 
 -- blocks between two numbers are between further ones
 pub AreKept-further : (width : ℕ) (values : List ℕ) (first number end : ℕ) (kept : List ℕ) → number ≤ end → AreKept width values first number kept → AreKept width values first end kept
 AreKept-further width values first number end kept further h =
     record { from = h.from; before = λ i inside. let b = h.before i inside in omega arith; whole = h.whole; few = let b = h.few in omega arith; different = h.different }
 
--- one more block has its place, and those before stay at theirs
-pub ArePlaces-push : (width : ℕ) (values : List ℕ) (first number : ℕ) (places kept grown : List ℕ) (place : ℕ) → first ≤ number
-    → ArePlaces width values first number places kept
+-- one more block has its slot, and those before stay at theirs
+pub AreSlots-push : (width : ℕ) (values : List ℕ) (first number : ℕ) (slots kept grown : List ℕ) (slot : ℕ) → first ≤ number
+    → AreSlots width values first number slots kept
     → ((i : ℕ) → i < length kept → (i < length grown) × (slice_index grown i ≡ slice_index kept i))
-    → IsKeptAt width values number grown place
-    → ArePlaces width values first (number + 1) (places ++ place ∷ []) grown
-ArePlaces-push width values first number places kept grown place from before stay last =
-    let count : length places ≡ number - first = before.count in
-    let old : (b : ℕ) → first ≤ b → b < number → slice_index (places ++ place ∷ []) (b - first) ≡ slice_index places (b - first) =
-    λ b low high. get_or_append_left places (place ∷ []) 0 (b - first) (omega arith) in
-    let new : slice_index (places ++ place ∷ []) (number - first) ≡ place = get_or_push places place 0 (number - first) count in
+    → IsKeptAt width values number grown slot
+    → AreSlots width values first (number + 1) (slots ++ slot ∷ []) grown
+AreSlots-push width values first number slots kept grown slot from before stay last =
+    let count : length slots ≡ number - first = before.count in
+    let old : (b : ℕ) → first ≤ b → b < number → slice_index (slots ++ slot ∷ []) (b - first) ≡ slice_index slots (b - first) =
+    λ b low high. get_or_append_left slots (slot ∷ []) 0 (b - first) (omega arith) in
+    let new : slice_index (slots ++ slot ∷ []) (number - first) ≡ slot = get_or_push slots slot 0 (number - first) count in
     record {
-      count = omega (arith, length_push places place);
-      inside = push_all (λ n. n < length grown) places place (λ i h. (stay (slice_index places i) (before.inside i h)).0) last.0;
+      count = omega (arith, length_push slots slot);
+      inside = push_all (λ n. n < length grown) slots slot (λ i h. (stay (slice_index slots i) (before.inside i h)).0) last.0;
       alike = λ b low high. ⊎_elim
-          (λ below. rw (old b low below) (rw ((stay (slice_index places (b - first)) (before.inside (b - first) (omega arith))).1) (before.alike b low below)))
-          (λ above. let same : number ≡ b = omega arith in subst (λ n. block width values (slice_index grown (slice_index (places ++ place ∷ []) (n - first))) ≡ block width values n) same (rw new last.1))
+          (λ below. rw (old b low below) (rw ((stay (slice_index slots (b - first)) (before.inside (b - first) (omega arith))).1) (before.alike b low below)))
+          (λ above. let same : number ≡ b = omega arith in subst (λ n. block width values (slice_index grown (slice_index (slots ++ slot ∷ []) (n - first))) ≡ block width values n) same (rw new last.1))
           (cases_lt b number);
     }
 
--- the place of the block before, if there is one, is that of a kept one
-pub last_inside : (width : ℕ) (values : List ℕ) (first number : ℕ) (places kept : List ℕ) (last : Option ℕ) → first ≤ number
-    → ArePlaces width values first number places kept → last ≡ slice_get places (length places - 1) → IfSome last (λ place. place < length kept)
-last_inside width values first number places kept None from h same = tt
-last_inside width values first number places kept (Some place) from h same =
-    let within : length places - 1 < length places = slice_get_within places (length places - 1) place (sym same) in
-    let value : slice_index places (length places - 1) ≡ place = get_or_from_slice_get places (length places - 1) place 0 (sym same) in
-    rw value at (h.inside (length places - 1) within)
+-- the slot of the block before, if there is one, is that of a kept one
+pub last_inside : (width : ℕ) (values : List ℕ) (first number : ℕ) (slots kept : List ℕ) (last : Option ℕ) → first ≤ number
+    → AreSlots width values first number slots kept → last ≡ slice_get slots (length slots - 1) → IfSome last (λ slot. slot < length kept)
+last_inside width values first number slots kept None from h same = tt
+last_inside width values first number slots kept (Some slot) from h same =
+    let within : length slots - 1 < length slots = slice_get_within slots (length slots - 1) slot (sym same) in
+    let value : slice_index slots (length slots - 1) ≡ slot = get_or_from_slice_get slots (length slots - 1) slot 0 (sym same) in
+    rw value at (h.inside (length slots - 1) within)
 
 -- a number of a block that is whole
 pub at_block : (width : ℕ) (xs : List ℕ) (i k : ℕ) → i * width + width ≤ length xs → k < width → get_or (block width xs i) k 0 ≡ get_or xs (i * width + k) 0
@@ -118,14 +118,14 @@ pub not_found : (width : ℕ) (values kept : List ℕ) (number : ℕ) (key : Lis
     → IsFound width values kept key found → (i : ℕ) → i < length kept → block width values (slice_index kept i) ≢ block width values number
 not_found width values kept number key found is none h i inside same = (rw none at h) i inside (same ∙ sym is)
 
--- the place of one more kept block is found by its numbers
-pub IsFound-push : (width : ℕ) (values : List ℕ) (kept : List ℕ) (number place : ℕ) (numbers key : List ℕ) (old new : Option ℕ) → key ≡ block width values number
-    → place ≡ length kept → new ≡ cond (pointwise nat_eq key numbers) (Some place) old
+-- the slot of one more kept block is found by its numbers
+pub IsFound-push : (width : ℕ) (values : List ℕ) (kept : List ℕ) (number slot : ℕ) (numbers key : List ℕ) (old new : Option ℕ) → key ≡ block width values number
+    → slot ≡ length kept → new ≡ cond (pointwise nat_eq key numbers) (Some slot) old
     → IsFound width values kept numbers old → IsFound width values (kept ++ number ∷ []) numbers new
-IsFound-push width values kept number place numbers key old new is count changed before = rw changed (by (pointwise nat_eq key numbers) refl old before) where
-  by : (t : Bool) → pointwise nat_eq key numbers ≡ t → (was : Option ℕ) → IsFound width values kept numbers was → IsFound width values (kept ++ number ∷ []) numbers (cond t (Some place) was)
+IsFound-push width values kept number slot numbers key old new is count changed before = rw changed (by (pointwise nat_eq key numbers) refl old before) where
+  by : (t : Bool) → pointwise nat_eq key numbers ≡ t → (was : Option ℕ) → IsFound width values kept numbers was → IsFound width values (kept ++ number ∷ []) numbers (cond t (Some slot) was)
   by true same was h =
-      (omega (arith, length_push kept number), ap (block width values) (get_or_push kept number 0 place (sym count)) ∙ sym is ∙ (bytes_eq-Decides key numbers).0 same)
+      (omega (arith, length_push kept number), ap (block width values) (get_or_push kept number 0 slot (sym count)) ∙ sym is ∙ (bytes_eq-Decides key numbers).0 same)
   by false same None h =
       push_all (λ n. block width values n ≢ numbers) kept number h
       (λ e. true≢false (sym ((bytes_eq-Decides key numbers).1 (is ∙ e)) ∙ same))

@@ -3,20 +3,20 @@ use Rattle.std.proofs.Common.{◌≡◌, ℕ, ◌+◌, ◌-◌, ◌*◌, ◌/◌
 use Rattle.std.specs.Prelude.{slice_index, Some}
 use Rattle.std.proofs.lemmas.Bool.{lt-ltb, le-ltb, cases_lt}
 use Rattle.std.proofs.lemmas.List.{get_or-map, length-map}
-use Rattle.icu_codepointtrie.specs.Places.{fast_limit, data_offset}
+use Rattle.icu_codepointtrie.specs.Slots.{fast_limit, data_offset}
 use Rattle.icu_codepointtrie.specs.declared.builder.layout.Layout.{Layout}
 use Rattle.icu_codepointtrie.specs.Layouts.{AreBounded, IsLayout, IsLastRun, third_start}
 use Rattle.icu_codepointtrie.proofs.built.BuiltTrieLemmas.{type_facts}
-use Rattle.icu_codepointtrie.specs.Blocks.{AreKept, ArePlaces}
+use Rattle.icu_codepointtrie.specs.Blocks.{AreKept, AreSlots}
 use Rattle.icu_codepointtrie.specs.DataCells.{Stands, Grows, AllStand}
 use Rattle.icu_codepointtrie.specs.IndexBlocks.{Gives}
 use Rattle.icu_codepointtrie.proofs.built.BlockLemmas.{at_block}
 use Rattle.icu_codepointtrie.proofs.built.DataCellLemmas.{Stands-grown}
 
 -- where blocks stand is within the cells
-pub places_inside : (width : ℕ) (values : List ℕ) (first end : ℕ) (cells places : List ℕ) → length places ≡ end - first → AllStand width values first end cells places
-    → (i : ℕ) → i < length places → slice_index places i + width ≤ length cells
-places_inside width values first end cells places count stand i h =
+pub slots_inside : (width : ℕ) (values : List ℕ) (first end : ℕ) (cells slots : List ℕ) → length slots ≡ end - first → AllStand width values first end cells slots
+    → (i : ℕ) → i < length slots → slice_index slots i + width ≤ length cells
+slots_inside width values first end cells slots count stand i h =
     let sum : first + i - first ≡ i = omega arith in
     rw sum at (stand (first + i) (omega arith) (omega arith)).inside
 
@@ -41,21 +41,21 @@ fast_stands values one two three fast end a b first more stand most n inside =
 
 -- the blocks of 16, found by the third block that the second cell of a block of 512 names
 pub small_found : (values cells small entries kept at thirds : List ℕ) (start from end first : ℕ) → first ≡ 32 * from → ((b : ℕ) → b < end → b * 512 + 512 ≤ length values)
-    → AreKept 512 values from end kept → ArePlaces 512 values from end at kept → AllStand 16 values first (32 * end) cells small
+    → AreKept 512 values from end kept → AreSlots 512 values from end at kept → AllStand 16 values first (32 * end) cells small
     → ((n : ℕ) → n < length kept → Gives start thirds (slice_index entries n) small ((slice_index kept n - from) * 32))
     → (w i : ℕ) (head : List ℕ) → from ≤ w → w < end → i < 32 → length head ≡ start
-    → (place : ℕ) × (data_offset (head ++ thirds) (slice_index (map (slice_index entries) at) (w - from)) i ≡ Some place) × Stands values (w * 512 + i * 16) cells place 16
-small_found values cells small entries kept at thirds start from end first is whole are places stand gives w i head low high inside head_is =
-    let count : length at ≡ end - from = places.count in
+    → (slot : ℕ) × (data_offset (head ++ thirds) (slice_index (map (slice_index entries) at) (w - from)) i ≡ Some slot) × Stands values (w * 512 + i * 16) cells slot 16
+small_found values cells small entries kept at thirds start from end first is whole are slots stand gives w i head low high inside head_is =
+    let count : length at ≡ end - from = slots.count in
     let n : ℕ = slice_index at (w - from) in
-    let n_kept : n < length kept = places.inside (w - from) (omega arith) in
+    let n_kept : n < length kept = slots.inside (w - from) (omega arith) in
     let second : slice_index (map (slice_index entries) at) (w - from) ≡ slice_index entries n = get_or-map (slice_index entries) at (w - from) 0 0 (omega arith) in
     let k : ℕ = slice_index kept n in
     let k_low : from ≤ k = are.from n n_kept in
     let k_high : k < end = are.before n n_kept in
     let b : ℕ = k * 32 + i in
-    let place : b - first ≡ (k - from) * 32 + i = omega arith in
-    let here : Stands values (b * 16) cells (slice_index small ((k - from) * 32 + i)) 16 = rw place at (stand b (omega arith) (omega arith)) in (
+    let slot : b - first ≡ (k - from) * 32 + i = omega arith in
+    let here : Stands values (b * 16) cells (slice_index small ((k - from) * 32 + i)) 16 = rw slot at (stand b (omega arith) (omega arith)) in (
       slice_index small ((k - from) * 32 + i),
       rw second ((gives n n_kept).offsets head head_is i inside),
       record {
@@ -65,7 +65,7 @@ small_found values cells small entries kept at thirds start from end first is wh
             let other : w * 512 + (i * 16 + r) ≡ w * 512 + i * 16 + r = omega arith in
             here.same r h ∙ ap (λ c. slice_index values c) one
             ∙ sym (at_block 512 values k (i * 16 + r) (whole k k_high) (omega arith))
-            ∙ ap (λ (xs : List ℕ). get_or xs (i * 16 + r) 0) (places.alike w low high)
+            ∙ ap (λ (xs : List ℕ). get_or xs (i * 16 + r) 0) (slots.alike w low high)
             ∙ at_block 512 values w (i * 16 + r) (whole w high) (omega arith)
             ∙ ap (λ c. slice_index values c) other;
       },
@@ -82,33 +82,33 @@ seconds_small small entries kept at thirds start from inside gives i h =
 pub IsLayout-made : (values one two cells : List ℕ) (most_fast most_small : ℕ) (l : Layout) (limit : ℕ) (small entries kept at : List ℕ) → limit ≡ fast_limit l.trie_type → length values ≡ 0x11_0000 → l.wide_end ≤ 0x880
     → Stands values 0 one 0 128 → Grows one two most_fast → AllStand 64 values 2 (limit / 64) two l.fast.items → Grows two cells most_small
     → l.seconds.items ≡ map (slice_index entries) at
-    → AreKept 512 values (limit / 512) l.wide_end kept → ArePlaces 512 values (limit / 512) l.wide_end at kept → AllStand 16 values (limit / 16) (32 * l.wide_end) cells small
+    → AreKept 512 values (limit / 512) l.wide_end kept → AreSlots 512 values (limit / 512) l.wide_end at kept → AllStand 16 values (limit / 16) (32 * l.wide_end) cells small
     → ((n : ℕ) → n < length kept → Gives (third_start l.trie_type l.wide_end) l.thirds.items (slice_index entries n) small ((slice_index kept n - limit / 512) * 32))
     → IsLastRun values l.wide_end → IsLayout values cells l
-IsLayout-made values one two cells most_fast most_small l limit small entries kept at is count to first more fast most seconds are places stand gives run =
+IsLayout-made values one two cells most_fast most_small l limit small entries kept at is count to first more fast most seconds are slots stand gives run =
     let x = type_facts l.trie_type in
     record {
       fast = fast_stands values one two cells l.fast.items (fast_limit l.trie_type / 64) most_fast most_small first more (subst (λ n. AllStand 64 values 2 (n / 64) two l.fast.items) is fast) most;
       small = λ w i head low high inside head_is.
           let from : limit / 512 ≤ w = omega arith in
-          let found = small_found values cells small entries kept at l.thirds.items (third_start l.trie_type l.wide_end) (limit / 512) l.wide_end (limit / 16) (omega (arith, x.1, x.2)) (λ b h. omega arith) are places stand gives w i head from high inside head_is in
-          subst (λ n. (place : ℕ) × (data_offset (head ++ l.thirds.items) (slice_index l.seconds.items (w - n / 512)) i ≡ Some place) × Stands values (w * 512 + i * 16) cells place 16) is (rw seconds found);
+          let found = small_found values cells small entries kept at l.thirds.items (third_start l.trie_type l.wide_end) (limit / 512) l.wide_end (limit / 16) (omega (arith, x.1, x.2)) (λ b h. omega arith) are slots stand gives w i head from high inside head_is in
+          subst (λ n. (slot : ℕ) × (data_offset (head ++ l.thirds.items) (slice_index l.seconds.items (w - n / 512)) i ≡ Some slot) × Stands values (w * 512 + i * 16) cells slot 16) is (rw seconds found);
       run = run;
     }
 
 -- and its cells are bounded
 pub AreBounded-made : (values two : List ℕ) (l : Layout) (limit : ℕ) (small entries kept at : List ℕ) → limit ≡ fast_limit l.trie_type → limit / 512 ≤ l.wide_end → l.wide_end ≤ 0x880
     → length two ≤ 65536 → length l.fast.items ≡ limit / 64 - 2 → AllStand 64 values 2 (limit / 64) two l.fast.items
-    → l.seconds.items ≡ map (slice_index entries) at → ArePlaces 512 values (limit / 512) l.wide_end at kept
+    → l.seconds.items ≡ map (slice_index entries) at → AreSlots 512 values (limit / 512) l.wide_end at kept
     → ((n : ℕ) → n < length kept → Gives (third_start l.trie_type l.wide_end) l.thirds.items (slice_index entries n) small ((slice_index kept n - limit / 512) * 32)) → AreBounded l
-AreBounded-made values two l limit small entries kept at is from to few count fast seconds places gives =
+AreBounded-made values two l limit small entries kept at is from to few count fast seconds slots gives =
     let longer = length-map at (slice_index entries) in
-    let wide : length at ≡ l.wide_end - limit / 512 = places.count in
+    let wide : length at ≡ l.wide_end - limit / 512 = slots.count in
     record {
       from = omega arith;
       to = to;
       fast_count = omega arith;
-      fast_small = λ i h. omega (arith, places_inside 64 values 2 (limit / 64) two l.fast.items count fast i h);
+      fast_small = λ i h. omega (arith, slots_inside 64 values 2 (limit / 64) two l.fast.items count fast i h);
       second_count = rw seconds (omega (arith, longer));
-      second_small = rw seconds (λ i h. seconds_small small entries kept at l.thirds.items (third_start l.trie_type l.wide_end) (limit / 512) places.inside gives i (omega (arith, longer)));
+      second_small = rw seconds (λ i h. seconds_small small entries kept at l.thirds.items (third_start l.trie_type l.wide_end) (limit / 512) slots.inside gives i (omega (arith, longer)));
     }

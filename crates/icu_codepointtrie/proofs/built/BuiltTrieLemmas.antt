@@ -7,7 +7,7 @@ use Rattle.std.proofs.lemmas.Option.{slice_get-get_or}
 use Rattle.icu_codepointtrie.specs.declared.trie.TrieType.{TrieType}
 use Rattle.icu_codepointtrie.specs.declared.trie.TrieType.TheVariants.{Fast, Small}
 use Rattle.icu_codepointtrie.specs.declared.builder.layout.Layout.{Layout}
-use Rattle.icu_codepointtrie.specs.Places.{fast_limit, fast_blocks, first_step, fast_place, small_place, named_place, TrieTables, value_at, has_cell, IsTrie}
+use Rattle.icu_codepointtrie.specs.Slots.{fast_limit, fast_blocks, first_step, fast_slot, small_slot, named_slot, TrieTables, value_at, has_cell, IsTrie}
 use Rattle.icu_codepointtrie.specs.CodePointMaps.{CodePointMap, mapped}
 use Rattle.icu_codepointtrie.specs.BuiltTries.{IsTrieOf, AreAllCells}
 use Rattle.icu_codepointtrie.specs.Layouts.{AreBounded, IsLayout, second_start, third_start, fast_start, index_cell, HasCells, HasIndex}
@@ -31,23 +31,23 @@ first_cell l c from before =
     rw (le-ltb (c / 2 ^ 14 + first_step l.trie_type) (fast_blocks l.trie_type) (omega (arith, x.1, x.2, x.3)), lt-ltb (c / 2 ^ 14 + first_step l.trie_type) (second_start l.trie_type l.wide_end) (omega (arith, x.1, x.2, x.3))) (omega arith)
 
 -- the second, by the number of the block of 512
-second_cell : (l : Layout) (place j : ℕ) → AreBounded l → place ≡ second_start l.trie_type l.wide_end + j → index_cell l place ≡ slice_index l.seconds.items j
+second_cell : (l : Layout) (slot j : ℕ) → AreBounded l → slot ≡ second_start l.trie_type l.wide_end + j → index_cell l slot ≡ slice_index l.seconds.items j
 unfolding index_cell
-second_cell l place j bounds is =
+second_cell l slot j bounds is =
     let x = type_facts l.trie_type in
     let from : fast_limit l.trie_type / 512 ≤ l.wide_end = bounds.from in
-    let back : place - second_start l.trie_type l.wide_end ≡ j = omega arith in
-    rw (le-ltb place (fast_blocks l.trie_type) (omega (arith, x.1, x.2, x.3)), le-ltb place (second_start l.trie_type l.wide_end) (omega arith), back) refl
+    let back : slot - second_start l.trie_type l.wide_end ≡ j = omega arith in
+    rw (le-ltb slot (fast_blocks l.trie_type) (omega (arith, x.1, x.2, x.3)), le-ltb slot (second_start l.trie_type l.wide_end) (omega arith), back) refl
 
 -- what is read of the index before the third blocks
-read : (l : Layout) (head rest : List ℕ) (place value : ℕ) → HasCells l head → place < third_start l.trie_type l.wide_end → index_cell l place ≡ value → slice_get (head ++ rest) place ≡ Some value
-read l head rest place value has inside is =
+read : (l : Layout) (head rest : List ℕ) (slot value : ℕ) → HasCells l head → slot < third_start l.trie_type l.wide_end → index_cell l slot ≡ value → slice_get (head ++ rest) slot ≡ Some value
+read l head rest slot value has inside is =
     let count : length head ≡ third_start l.trie_type l.wide_end = has.count in
-    slice_get-get_or (head ++ rest) place 0 (omega (arith, length-append head rest)) ∙ ap Some (get_or_append_left head rest 0 place (omega arith) ∙ has.cells place inside ∙ is)
+    slice_get-get_or (head ++ rest) slot 0 (omega (arith, length-append head rest)) ∙ ap Some (get_or_append_left head rest 0 slot (omega arith) ∙ has.cells slot inside ∙ is)
 
 -- from the fast limit up to the last run
 small_value : (values cells : List ℕ) (l : Layout) (head : List ℕ) (c : ℕ) → IsLayout values cells l → AreBounded l → HasCells l head → fast_limit l.trie_type ≤ c → c < l.wide_end * 512
-    → (place : ℕ) × (small_place l.trie_type (head ++ l.thirds.items) c ≡ Some place) × (place < length cells) × (slice_index cells place ≡ slice_index values c)
+    → (slot : ℕ) × (small_slot l.trie_type (head ++ l.thirds.items) c ≡ Some slot) × (slot < length cells) × (slice_index cells slot ≡ slice_index values c)
 small_value values cells l head c layout bounds has from before =
     let x = type_facts l.trie_type in
     let low : fast_limit l.trie_type / 512 ≤ l.wide_end = bounds.from in
@@ -56,9 +56,9 @@ small_value values cells l head c layout bounds has from before =
     let first_value : ℕ = second_start l.trie_type l.wide_end - fast_limit l.trie_type / 512 + 32 * (c / 2 ^ 14) in
     let first : slice_get (head ++ l.thirds.items) (c / 2 ^ 14 + first_step l.trie_type) ≡ Some first_value =
     read l head l.thirds.items _ _ has (omega (arith, x.1, x.2, x.3)) (first_cell l c from before) in
-    let place : first_value + c / 2 ^ 9 % 32 ≡ second_start l.trie_type l.wide_end + (c / 512 - fast_limit l.trie_type / 512) = omega (arith, x.1, x.2, x.3) in
+    let slot : first_value + c / 2 ^ 9 % 32 ≡ second_start l.trie_type l.wide_end + (c / 512 - fast_limit l.trie_type / 512) = omega (arith, x.1, x.2, x.3) in
     let second : slice_get (head ++ l.thirds.items) (first_value + c / 2 ^ 9 % 32) ≡ Some (slice_index l.seconds.items (c / 512 - fast_limit l.trie_type / 512)) =
-    read l head l.thirds.items _ _ has (omega (arith, x.1, x.2, x.3)) (second_cell l _ (c / 512 - fast_limit l.trie_type / 512) bounds place) in
+    read l head l.thirds.items _ _ has (omega (arith, x.1, x.2, x.3)) (second_cell l _ (c / 512 - fast_limit l.trie_type / 512) bounds slot) in
     let found = layout.small (c / 512) i head (omega (arith, x.1, x.2)) (omega arith) (omega arith) has.count in
     let whole : c / 512 * 512 + i * 16 + c % 16 ≡ c = omega arith in
     let inside = found.2.inside in
@@ -66,7 +66,7 @@ small_value values cells l head c layout bounds has from before =
 
 -- below the fast limit
 fast_value : (values cells : List ℕ) (l : Layout) (head : List ℕ) (c : ℕ) → IsLayout values cells l → AreBounded l → HasCells l head → c < fast_limit l.trie_type
-    → (place : ℕ) × (fast_place (head ++ l.thirds.items) c ≡ Some place) × (place < length cells) × (slice_index cells place ≡ slice_index values c)
+    → (slot : ℕ) × (fast_slot (head ++ l.thirds.items) c ≡ Some slot) × (slot < length cells) × (slice_index cells slot ≡ slice_index values c)
 fast_value values cells l head c layout bounds has before =
     let x = type_facts l.trie_type in
     let low : fast_limit l.trie_type / 512 ≤ l.wide_end = bounds.from in
@@ -77,20 +77,20 @@ fast_value values cells l head c layout bounds has before =
     let inside = stands.inside in
     (fast_start l (c / 64) + c % 64, rw cell refl, omega arith, stands.same (c % 64) (omega arith) ∙ ap (λ k. slice_index values k) whole)
 
--- what is at the place that header and index name
-at_place : {T : Type 0} (t : TrieTables T) (c place : ℕ) → named_place t.header t.index (length t.cells) c ≡ Some place → place < length t.cells
-    → (has_cell t c ≡ true) × (value_at t c ≡ slice_get t.cells place)
-at_place t c place named inside = (rw (named, lt-ltb place (length t.cells) inside) refl, rw (named, lt-ltb place (length t.cells) inside) refl)
+-- what is at the slot that header and index name
+at_slot : {T : Type 0} (t : TrieTables T) (c slot : ℕ) → named_slot t.header t.index (length t.cells) c ≡ Some slot → slot < length t.cells
+    → (has_cell t c ≡ true) × (value_at t c ≡ slice_get t.cells slot)
+at_slot t c slot named inside = (rw (named, lt-ltb slot (length t.cells) inside) refl, rw (named, lt-ltb slot (length t.cells) inside) refl)
 
 -- a cell whose number is that of the code point's value has the value
-same_value : {T : Type 0} (number : T → ℕ) → ((x y : T) → number x ≡ number y → x ≡ y) → (m : CodePointMap T) (stored rest : List T) (c place : ℕ) → length m.values ≡ 0x11_0000
-    → c < 0x11_0000 → place < length (map number stored) → slice_index (map number stored) place ≡ slice_index (map number m.values) c → slice_get (stored ++ rest) place ≡ Some (mapped m c)
-same_value {T} number tells m stored rest c place all within inside same =
-    let low : place < length stored = omega (arith, length-map stored number) in
-    let numbers : number (get_or stored place m.default) ≡ number (get_or m.values c m.default) =
-    sym (get_or-map number stored place m.default 0 low) ∙ same ∙ get_or-map number m.values c m.default 0 (omega arith) in
-    slice_get-get_or (stored ++ rest) place m.default (omega (arith, length-append stored rest))
-    ∙ ap (λ (v : T). Some v) (get_or_append_left stored rest m.default place low ∙ tells (get_or stored place m.default) (get_or m.values c m.default) numbers)
+same_value : {T : Type 0} (number : T → ℕ) → ((x y : T) → number x ≡ number y → x ≡ y) → (m : CodePointMap T) (stored rest : List T) (c slot : ℕ) → length m.values ≡ 0x11_0000
+    → c < 0x11_0000 → slot < length (map number stored) → slice_index (map number stored) slot ≡ slice_index (map number m.values) c → slice_get (stored ++ rest) slot ≡ Some (mapped m c)
+same_value {T} number tells m stored rest c slot all within inside same =
+    let low : slot < length stored = omega (arith, length-map stored number) in
+    let numbers : number (get_or stored slot m.default) ≡ number (get_or m.values c m.default) =
+    sym (get_or-map number stored slot m.default 0 low) ∙ same ∙ get_or-map number m.values c m.default 0 (omega arith) in
+    slice_get-get_or (stored ++ rest) slot m.default (omega (arith, length-append stored rest))
+    ∙ ap (λ (v : T). Some v) (get_or_append_left stored rest m.default slot low ∙ tells (get_or stored slot m.default) (get_or m.values c m.default) numbers)
 
 -- the last but one
 last_value : {T : Type 0} (number : T → ℕ) → ((x y : T) → number x ≡ number y → x ≡ y) → (m : CodePointMap T) (stored : List T) (last : T) (c : ℕ) → length m.values ≡ 0x11_0000
@@ -126,14 +126,14 @@ IsTrieOf-built {T} number tells m l t stored all header_type layout_type high la
       count : length t.cells ≡ length stored + 2
       count = ap (λ (xs : List T). length xs) cells ∙ length-append stored rest
 
-      at : (c place : ℕ) (value : T) → named_place t.header t.index (length t.cells) c ≡ Some place → place < length t.cells → slice_get (stored ++ rest) place ≡ Some value
+      at : (c slot : ℕ) (value : T) → named_slot t.header t.index (length t.cells) c ≡ Some slot → slot < length t.cells → slice_get (stored ++ rest) slot ≡ Some value
           → (has_cell t c ≡ true) × (value_at t c ≡ Some value)
-      at c place value named low is = let found = at_place t c place named low in (found.0, found.1 ∙ ap (λ (xs : List T). slice_get xs place) cells ∙ is)
+      at c slot value named low is = let found = at_slot t c slot named low in (found.0, found.1 ∙ ap (λ (xs : List T). slice_get xs slot) cells ∙ is)
 
       outside : (c : ℕ) → 0x11_0000 ≤ c → (has_cell t c ≡ true) × (value_at t c ≡ Some m.error)
       outside c above =
           let end : length t.cells - 1 ≡ length stored + 1 = omega (arith, count) in
-          let named : named_place t.header t.index (length t.cells) c ≡ Some (length stored + 1) = rw (lt-ltb 0x10_FFFF c (omega arith), end) refl in
+          let named : named_slot t.header t.index (length t.cells) c ≡ Some (length stored + 1) = rw (lt-ltb 0x10_FFFF c (omega arith), end) refl in
           at c (length stored + 1) m.error named (omega (arith, count)) (error_value stored last m.error)
 
       inside : (c : ℕ) → c < 0x11_0000 → (has_cell t c ≡ true) × (value_at t c ≡ Some (mapped m c))
@@ -145,17 +145,17 @@ IsTrieOf-built {T} number tells m l t stored all header_type layout_type high la
           ⊎_elim
           (λ below.
           let v = fast_value (map number m.values) (map number stored) l head c layout bounds has below in
-          let named : named_place t.header t.index (length t.cells) c ≡ Some v.0 = rw (point, same_type, lt-ltb c (fast_limit l.trie_type) below, index) v.1 in
+          let named : named_slot t.header t.index (length t.cells) c ≡ Some v.0 = rw (point, same_type, lt-ltb c (fast_limit l.trie_type) below, index) v.1 in
           at c v.0 (mapped m c) named (omega (arith, v.2, count, stored_count)) (same_value number tells m stored rest c v.0 all within v.2 v.3))
           (λ above. ⊎_elim
           (λ below.
           let v = small_value (map number m.values) (map number stored) l head c layout bounds has above below in
-          let named : named_place t.header t.index (length t.cells) c ≡ Some v.0 = rw (point, same_type, le-ltb c (fast_limit l.trie_type) above, high, lt-ltb c (l.wide_end * 512) below, index) v.1 in
+          let named : named_slot t.header t.index (length t.cells) c ≡ Some v.0 = rw (point, same_type, le-ltb c (fast_limit l.trie_type) above, high, lt-ltb c (l.wide_end * 512) below, index) v.1 in
           at c v.0 (mapped m c) named (omega (arith, v.2, count, stored_count)) (same_value number tells m stored rest c v.0 all within v.2 v.3))
           (λ past.
           let two : nat_lt (length t.cells) 2 ≡ false = le-ltb (length t.cells) 2 (omega (arith, count)) in
           let end : length t.cells - 2 ≡ length stored = omega (arith, count) in
-          let named : named_place t.header t.index (length t.cells) c ≡ Some (length stored) = rw (point, same_type, le-ltb c (fast_limit l.trie_type) above, high, le-ltb c (l.wide_end * 512) past, two, end) refl in
+          let named : named_slot t.header t.index (length t.cells) c ≡ Some (length stored) = rw (point, same_type, le-ltb c (fast_limit l.trie_type) above, high, le-ltb c (l.wide_end * 512) past, two, end) refl in
           at c (length stored) (mapped m c) named (omega (arith, count)) (last_value number tells m stored last c all within last_is (layout.run c past within)))
           (cases_lt c (l.wide_end * 512)))
           (cases_lt c (fast_limit l.trie_type))

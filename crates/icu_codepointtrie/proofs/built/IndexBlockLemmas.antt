@@ -1,7 +1,7 @@
 -- Third index blocks stay as they are when cells are put after them.
 use Rattle.std.proofs.Common.{◌≡◌, ℕ, zero, suc, ◌+◌, ◌-◌, ◌*◌, ◌/◌, ◌%◌, ◌^◌, ◌<◌, ◌≤◌, refl, add-one, arith}
 use Rattle.std.proofs.Math.Nat.{pow-suc, pow-le-pow_right}
-use Rattle.icu_codepointtrie.specs.Places.{data_offset, found}
+use Rattle.icu_codepointtrie.specs.Slots.{data_offset, found}
 use Rattle.icu_codepointtrie.specs.DataCells.{Stands, Grows}
 use Rattle.icu_codepointtrie.specs.IndexBlocks.{joined, upper_cell, HasWide, Gives}
 use Rattle.std.proofs.Common.{Bool, true, false, List, [], ◌∷◌, ◌++◌, length, get_or, ◌==◌, nat_lt, sym, ap, ◌∙◌, subst, length-append, ⊎_elim}
@@ -54,31 +54,31 @@ get_after head xs k =
     rw back at (get_or-append_right head xs (length head) (length head + k) 0 refl (omega arith))
 
 -- what is read after the head
-get_third : (head thirds : List ℕ) (start place value : ℕ) → length head ≡ start → place < length thirds → slice_index thirds place ≡ value → slice_get (head ++ thirds) (start + place) ≡ Some value
-get_third head thirds start place value is inside same =
-    slice_get-get_or (head ++ thirds) (start + place) 0 (omega (arith, length-append head thirds))
-    ∙ ap Some (ap (λ n. get_or (head ++ thirds) (n + place) 0) (sym is) ∙ get_after head thirds place ∙ same)
+get_third : (head thirds : List ℕ) (start slot value : ℕ) → length head ≡ start → slot < length thirds → slice_index thirds slot ≡ value → slice_get (head ++ thirds) (start + slot) ≡ Some value
+get_third head thirds start slot value is inside same =
+    slice_get-get_or (head ++ thirds) (start + slot) 0 (omega (arith, length-append head thirds))
+    ∙ ap Some (ap (λ n. get_or (head ++ thirds) (n + slot) 0) (sym is) ∙ get_after head thirds slot ∙ same)
 
--- a block of 32 cells gives its places
-pub Gives-narrow : (start : ℕ) (old new places : List ℕ) (first : ℕ) → start + length old + 36 ≤ 0x8000 → Stands places first new (length old) 32
-    → Gives start new (start + length old) places first
-Gives-narrow start old new places first room stands =
+-- a block of 32 cells gives its slots
+pub Gives-narrow : (start : ℕ) (old new slots : List ℕ) (first : ℕ) → start + length old + 36 ≤ 0x8000 → Stands slots first new (length old) 32
+    → Gives start new (start + length old) slots first
+Gives-narrow start old new slots first room stands =
     record {
       fits = omega arith;
       offsets = λ head is i h.
           let low : nat_lt (start + length old) 0x8000 ≡ true = lt-ltb (start + length old) 0x8000 (omega arith) in
           let sum : start + length old + i ≡ start + (length old + i) = omega arith in
           let inside = stands.inside in
-          rw (low, sum) (get_third head new start (length old + i) (slice_index places (first + i)) is (omega arith) (stands.same i h));
+          rw (low, sum) (get_third head new start (length old + i) (slice_index slots (first + i)) is (omega arith) (stands.same i h));
     }
 
 -- and so does one of 36
-pub Gives-wide : (start : ℕ) (old new places : List ℕ) (first : ℕ) → first + 32 ≤ length places → ((i : ℕ) → i < length places → slice_index places i < 2 ^ 18)
-    → start + length old + 36 ≤ 0x8000 → HasWide places first old new 36 → Gives start new (0x8000 + (start + length old)) places first
+pub Gives-wide : (start : ℕ) (old new slots : List ℕ) (first : ℕ) → first + 32 ≤ length slots → ((i : ℕ) → i < length slots → slice_index slots i < 2 ^ 18)
+    → start + length old + 36 ≤ 0x8000 → HasWide slots first old new 36 → Gives start new (0x8000 + (start + length old)) slots first
 unfolding upper_cell
-Gives-wide start old new places first whole small room has =
+Gives-wide start old new slots first whole small room has =
     record { fits = omega arith; offsets = offsets } where
-      offsets : (head : List ℕ) → length head ≡ start → (i : ℕ) → i < 32 → data_offset (head ++ new) (0x8000 + (start + length old)) i ≡ Some (slice_index places (first + i))
+      offsets : (head : List ℕ) → length head ≡ start → (i : ℕ) → i < 32 → data_offset (head ++ new) (0x8000 + (start + length old)) i ≡ Some (slice_index slots (first + i))
       offsets head is i h =
           let longer : length new ≡ length old + 36 = has.longer in
           let high : nat_lt (0x8000 + (start + length old)) 0x8000 ≡ false = le-ltb (0x8000 + (start + length old)) 0x8000 (omega arith) in
@@ -90,16 +90,16 @@ Gives-wide start old new places first whole small room has =
           let some : ((group + 1 + i % 8) % 9 == 0) ≡ false = ne_eqb ((group + 1 + i % 8) % 9) 0 (λ e. omega arith) in
           let first_up : first + group / 9 * 8 ≡ first + i / 8 * 8 = omega arith in
           let first_down : first + (group + 1 + i % 8) / 9 * 8 + ((group + 1 + i % 8) % 9 - 1) ≡ first + i = omega arith in
-          let upper_is : slice_index new (length old + group) ≡ upper_cell places (first + i / 8 * 8) = has.same group (omega arith) ∙ rw (none, first_up) refl in
-          let lower_is : slice_index new (length old + (group + 1 + i % 8)) ≡ slice_index places (first + i) % 2 ^ 16 = has.same (group + 1 + i % 8) (omega arith) ∙ rw (some, first_down) refl in
-          let upper : slice_get (head ++ new) (start + length old + i / 8 * 9) ≡ Some (upper_cell places (first + i / 8 * 8)) =
-          rw up (get_third head new start (length old + group) (upper_cell places (first + i / 8 * 8)) is (omega arith) upper_is) in
-          let lower : slice_get (head ++ new) (start + length old + i / 8 * 9 + 1 + i % 8) ≡ Some (slice_index places (first + i) % 2 ^ 16) =
-          rw down (get_third head new start (length old + (group + 1 + i % 8)) (slice_index places (first + i) % 2 ^ 16) is (omega arith) lower_is) in
+          let upper_is : slice_index new (length old + group) ≡ upper_cell slots (first + i / 8 * 8) = has.same group (omega arith) ∙ rw (none, first_up) refl in
+          let lower_is : slice_index new (length old + (group + 1 + i % 8)) ≡ slice_index slots (first + i) % 2 ^ 16 = has.same (group + 1 + i % 8) (omega arith) ∙ rw (some, first_down) refl in
+          let upper : slice_get (head ++ new) (start + length old + i / 8 * 9) ≡ Some (upper_cell slots (first + i / 8 * 8)) =
+          rw up (get_third head new start (length old + group) (upper_cell slots (first + i / 8 * 8)) is (omega arith) upper_is) in
+          let lower : slice_get (head ++ new) (start + length old + i / 8 * 9 + 1 + i % 8) ≡ Some (slice_index slots (first + i) % 2 ^ 16) =
+          rw down (get_third head new start (length old + (group + 1 + i % 8)) (slice_index slots (first + i) % 2 ^ 16) is (omega arith) lower_is) in
           let here : first + i / 8 * 8 + i % 8 ≡ first + i = omega arith in
-          let bits : upper_cell places (first + i / 8 * 8) / 2 ^ (14 - 2 * (i % 8)) % 4 ≡ slice_index places (first + i) / 2 ^ 16 =
-          joined_bits (λ k. slice_index places (first + i / 8 * 8 + k) / 2 ^ 16) (i % 8) (omega arith) (λ k b. let s = small (first + i / 8 * 8 + k) (omega arith) in omega arith)
-          ∙ ap (λ n. slice_index places n / 2 ^ 16) here in
+          let bits : upper_cell slots (first + i / 8 * 8) / 2 ^ (14 - 2 * (i % 8)) % 4 ≡ slice_index slots (first + i) / 2 ^ 16 =
+          joined_bits (λ k. slice_index slots (first + i / 8 * 8 + k) / 2 ^ 16) (i % 8) (omega arith) (λ k b. let s = small (first + i / 8 * 8 + k) (omega arith) in omega arith)
+          ∙ ap (λ n. slice_index slots n / 2 ^ 16) here in
           rw (high, block, upper, lower, bits) (ap Some (omega arith))
 
 -- what is read of some cells is read of more
@@ -127,11 +127,11 @@ found_grown head old new most k value next next' grows further is = by (slice_ge
   by (Some cell) at h = rw (get_grown head old new most k cell grows at) (further cell h)
 
 -- a block stays what it is when more cells come after it
-pub Gives-grown : (start : ℕ) (old new : List ℕ) (most entry : ℕ) (places : List ℕ) (first : ℕ) → Grows old new most → Gives start old entry places first → Gives start new entry places first
-Gives-grown start old new most entry places first grows gives =
+pub Gives-grown : (start : ℕ) (old new : List ℕ) (most entry : ℕ) (slots : List ℕ) (first : ℕ) → Grows old new most → Gives start old entry slots first → Gives start new entry slots first
+Gives-grown start old new most entry slots first grows gives =
     record {
       fits = gives.fits;
-      offsets = λ head is i h. by head i (slice_index places (first + i)) (nat_lt entry 0x8000) refl (gives.offsets head is i h);
+      offsets = λ head is i h. by head i (slice_index slots (first + i)) (nat_lt entry 0x8000) refl (gives.offsets head is i h);
     } where
       by : (head : List ℕ) (i value : ℕ) (narrow : Bool) → nat_lt entry 0x8000 ≡ narrow → data_offset (head ++ old) entry i ≡ Some value → data_offset (head ++ new) entry i ≡ Some value
       by head i value true t h = rw t (get_grown head old new most (entry + i) value grows (rw t at h))
@@ -141,14 +141,14 @@ Gives-grown start old new most entry places first grows gives =
           (rw t at h))
 
 -- one third block more
-pub gives_push : (start : ℕ) (old new entries places kept : List ℕ) (from n entry most : ℕ) → length entries ≡ n → Grows old new most
-    → ((k : ℕ) → k < n → Gives start old (slice_index entries k) places ((slice_index kept k - from) * 32))
-    → Gives start new entry places ((slice_index kept n - from) * 32)
-    → (k : ℕ) → k < n + 1 → Gives start new (slice_index (entries ++ entry ∷ []) k) places ((slice_index kept k - from) * 32)
-gives_push start old new entries places kept from n entry most count grows each last k h =
+pub gives_push : (start : ℕ) (old new entries slots kept : List ℕ) (from n entry most : ℕ) → length entries ≡ n → Grows old new most
+    → ((k : ℕ) → k < n → Gives start old (slice_index entries k) slots ((slice_index kept k - from) * 32))
+    → Gives start new entry slots ((slice_index kept n - from) * 32)
+    → (k : ℕ) → k < n + 1 → Gives start new (slice_index (entries ++ entry ∷ []) k) slots ((slice_index kept k - from) * 32)
+gives_push start old new entries slots kept from n entry most count grows each last k h =
     ⊎_elim
-    (λ below. rw (get_or_append_left entries (entry ∷ []) 0 k (omega arith)) (Gives-grown start old new most (slice_index entries k) places ((slice_index kept k - from) * 32) grows (each k below)))
+    (λ below. rw (get_or_append_left entries (entry ∷ []) 0 k (omega arith)) (Gives-grown start old new most (slice_index entries k) slots ((slice_index kept k - from) * 32) grows (each k below)))
     (λ above.
     let same : n ≡ k = omega arith in
-    rw (get_or_push entries entry 0 k (count ∙ same)) (subst (λ j. Gives start new entry places ((slice_index kept j - from) * 32)) same last))
+    rw (get_or_push entries entry 0 k (count ∙ same)) (subst (λ j. Gives start new entry slots ((slice_index kept j - from) * 32)) same last))
     (cases_lt k n)

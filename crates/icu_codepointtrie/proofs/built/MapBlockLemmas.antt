@@ -25,36 +25,36 @@ first_of b bs q e = (0, omega arith, e)
 rest_of : (b : List ℕ) (bs : List (List ℕ)) (q : List ℕ) → Contains bs q → Contains (b ∷ bs) q
 rest_of b bs q (k, inside, is) = (suc k, omega arith, is)
 
--- a list that differs at one place has at most one different block more
-changed_count : (width place : ℕ) (xs ys : List ℕ) → length xs ≡ length ys → ((k : ℕ) → k < length xs → k ≢ place → get_or ys k 0 ≡ get_or xs k 0)
+-- a list that differs at one slot has at most one different block more
+changed_count : (width slot : ℕ) (xs ys : List ℕ) → length xs ≡ length ys → ((k : ℕ) → k < length xs → k ≢ slot → get_or ys k 0 ≡ get_or xs k 0)
     → distinct_count Same (blocks width ys) ≤ distinct_count Same (blocks width xs) + 1
-changed_count width place xs ys count same =
-    let changed : List ℕ = block width ys (place / width) in
+changed_count width slot xs ys count same =
+    let changed : List ℕ = block width ys (slot / width) in
     let few = count_below (blocks width ys) (changed ∷ blocks width xs) among in
     omega (arith, few, one_more changed (blocks width xs))
   where
-    among : (q : List ℕ) → Contains (blocks width ys) q → Contains (block width ys (place / width) ∷ blocks width xs) q
+    among : (q : List ℕ) → Contains (blocks width ys) q → Contains (block width ys (slot / width) ∷ blocks width xs) q
     among q in_ys =
         let from = among_blocks width ys q in_ys in
         let j : ℕ = from.0 in
         let inside : j < length xs / width = rw count from.1 in
         let whole : j * width + width ≤ length xs = whole_block width (length xs) j inside in
         ⊎_elim
-        (λ (here : j ≡ place / width). first_of _ _ q (ap (block width ys) (sym here) ∙ from.2))
-        (λ (elsewhere : j ≡ place / width → ⊥). rest_of _ _ q (block_among width xs j q inside
+        (λ (here : j ≡ slot / width). first_of _ _ q (ap (block width ys) (sym here) ∙ from.2))
+        (λ (elsewhere : j ≡ slot / width → ⊥). rest_of _ _ q (block_among width xs j q inside
         (same_block width xs ys j j whole (omega (arith, count))
         (λ k h. sym (same (j * width + k) (omega arith) (λ e. elsewhere (sym (div-mul-add j width k h) ∙ ap (λ n. n / width) e))))
         ∙ from.2)))
-        (cases_eq j (place / width))
+        (cases_eq j (slot / width))
 
--- A write at one place makes at most one different block more.
-pub different_blocks-set : {T : Type 0} (number : T → ℕ) (width : ℕ) (values : List T) (place : ℕ) (value : T)
-    → different_blocks number width (slice_set values place value) ≤ different_blocks number width values + 1
+-- A write at one slot makes at most one different block more.
+pub different_blocks-set : {T : Type 0} (number : T → ℕ) (width : ℕ) (values : List T) (slot : ℕ) (value : T)
+    → different_blocks number width (slice_set values slot value) ≤ different_blocks number width values + 1
 unfolding different_blocks
-different_blocks-set number width values place value =
+different_blocks-set number width values slot value =
     let xs : List ℕ = map number values in
-    rw map-set (changed_count width place xs (slice_set xs place (number value)) (sym (length-set xs place (number value)))
-    (λ k h apart. get_or-set_other xs place k (number value) 0 apart))
+    rw map-set (changed_count width slot xs (slice_set xs slot (number value)) (sym (length-set xs slot (number value)))
+    (λ k h apart. get_or-set_other xs slot k (number value) 0 apart))
 
 -- A list of one value has at most one block of a width.
 pub different_blocks-constant : {T : Type 0} (number : T → ℕ) (width : ℕ) (values : List T) (value : T)
@@ -78,14 +78,14 @@ different_blocks-constant number width values value same =
         first_of (block width xs 0) [] q
         (same_block width xs xs 0 j (omega arith) whole (λ k h. at (0 * width + k) (omega arith) ∙ sym (at (j * width + k) (omega arith))) ∙ from.2)
 
--- the block that holds a place
+-- the block that holds a slot
 holds : (width j n : ℕ) → j * width ≤ n → n < j * width + width → j ≡ n / width
 holds width j n from below =
     let back : j * width + (n - j * width) ≡ n = omega arith in
     sym (div-mul-add j width (n - j * width) (omega arith)) ∙ ap (λ m. m / width) back
 
--- A list that has one value from a place to before another, and is elsewhere as before, has at most three different blocks
--- more: those that hold the two places, and one of the value alone.
+-- A list that has one value from a slot to before another, and is elsewhere as before, has at most three different blocks
+-- more: those that hold the two slots, and one of the value alone.
 range_count : (width first end value : ℕ) (xs ys : List ℕ) → length xs ≡ length ys
     → ((k : ℕ) → k < length xs → k < first → get_or ys k 0 ≡ get_or xs k 0)
     → ((k : ℕ) → k < length xs → end ≤ k → get_or ys k 0 ≡ get_or xs k 0)
@@ -141,7 +141,7 @@ range_count width first end value xs ys count before behind within =
         let from = among_blocks width ys q in_ys in
         at from.0 q (rw count from.1) from.2
 
--- what stands at a place after one value was written from a place to before another
+-- what stands at a slot after one value was written from a slot to before another
 written_at : (a b : Bool) (t e x : ℕ) → a ≡ false → (if a && b then t else e) ≡ e
 written_at a b t e x h = rw h refl
 

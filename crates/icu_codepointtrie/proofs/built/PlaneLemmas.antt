@@ -7,7 +7,7 @@ use Rattle.icu_codepointtrie.specs.CodePointMaps.{CodePointMap, mapped}
 use Rattle.icu_codepointtrie.proofs.built.BlockCountLemmas.{different_blocks-few}
 use Rattle.icu_codepointtrie.proofs.built.BlockLemmas.{same_block}
 
--- the number at a place
+-- the number at a slot
 number_at : {T : Type 0} (number : T → ℕ) (values : List T) (c : ℕ) (default : T) → c < length values → slice_index (map number values) c ≡ number (slice_index_or values c default)
 number_at number values c default inside = get_or-map number values c default 0 inside
 

@@ -24,7 +24,7 @@ count_joined {K} eq (x ∷ xs) ys = by (is_member eq (xs ++ ys) x) (count_joined
     by true h = omega arith
     by false h = omega arith
 
--- ---- Blocks from a place on
+-- ---- Blocks from a slot on
 
 module _ (start first : ℕ) (xs : List ℕ) (is : start ≡ first * 16) where
   abbrev behind : List (List ℕ)
@@ -63,7 +63,7 @@ module _ (start first : ℕ) (xs : List ℕ) (is : start ≡ first * 16) where
         let below : k < length kept = rw (length-map kept (block 16 xs)) at inside in
         on_either_side (slice_index kept k) q (are.from k below) (are.before k below) (sym (get_or-map (block 16 xs) kept k 0 q below) ∙ same)
 
-    -- kept blocks are at most as many as there are before the place, and different ones from there on
+    -- kept blocks are at most as many as there are before the slot, and different ones from there on
     pub kept_behind : length kept ≤ (first - before) + distinct_count Same behind
     kept_behind =
         omega (

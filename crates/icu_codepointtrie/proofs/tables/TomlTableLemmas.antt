@@ -12,7 +12,7 @@ use Rattle.toml.specs.View.{view, items_view, members_view}
 use Rattle.toml.specs.declared.value.Value.{Value}
 use Rattle.toml.proofs.Views.{items_view-push}
 use Rattle.icu_codepointtrie.specs.TrieValues.{fitting}
-use Rattle.icu_codepointtrie.specs.Places.{TrieTables}
+use Rattle.icu_codepointtrie.specs.Slots.{TrieTables}
 use Rattle.icu_codepointtrie.specs.declared.trie.TrieType.{TrieType}
 use Rattle.icu_codepointtrie.specs.declared.trie.TrieType.TheVariants.{Fast, Small}
 use Rattle.icu_codepointtrie.specs.declared.trie.CodePointTrieHeader.{CodePointTrieHeader}
@@ -57,7 +57,7 @@ pub integers_of-push : {T : Type 0} (number : T → ℕ) (vs : List T) (v : T) �
 integers_of-push number [] v = refl
 integers_of-push number (x ∷ vs) v = ap (item (integer (pos (number x)))) (integers_of-push number vs v)
 
--- the list up to a place, and the item there
+-- the list up to a slot, and the item there
 take_found : {A : Type 0} (xs : List A) (i : ℕ) (x : A) → slice_get xs i ≡ Some x → take (i + 1) xs ≡ take i xs ++ x ∷ []
 take_found xs i x h = take_more xs i x (slice_get_within xs i x h) ∙ rw (get_or_from_slice_get xs i x x h)
 

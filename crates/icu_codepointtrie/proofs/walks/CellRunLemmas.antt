@@ -3,7 +3,7 @@ use Rattle.std.proofs.Common.{◌≡◌, ◌≢◌, ℕ, Bool, ◌+◌, ◌-◌,
 use Rattle.std.specs.Prelude.{IfSome}
 use Rattle.std.proofs.lemmas.Bool.{cases_lt}
 use Rattle.icu_codepointtrie.specs.CellRuns.{IsAsSaid, AreAsSaid, IsKeyAsSaid, IsEndOfCells}
-use Rattle.icu_codepointtrie.specs.Places.{TrieTables, has_cell, value_at}
+use Rattle.icu_codepointtrie.specs.Slots.{TrieTables, has_cell, value_at}
 use Rattle.icu_codepointtrie.specs.SharedBlocks.{key_width, IsKey, IsTail, IsCellTail}
 
 module _ {T : Type 0} (t : TrieTables T) (value : T) (owned : Bool) where

@@ -1,7 +1,7 @@
 -- The code points of a range of one value are mapped alike.
 use Rattle.std.proofs.Common.{ℕ, ◌+◌, ◌<◌, Bool, true, sym, ◌∙◌, arith, ⊎_elim}
 use Rattle.std.proofs.lemmas.Bool.{cases_lt}
-use Rattle.icu_codepointtrie.specs.Places.{TrieTables}
+use Rattle.icu_codepointtrie.specs.Slots.{TrieTables}
 use Rattle.icu_codepointtrie.specs.Ranges.{IsEndOfRange}
 use Rattle.icu_codepointtrie.specs.MappedRanges.{IsAlike}
 

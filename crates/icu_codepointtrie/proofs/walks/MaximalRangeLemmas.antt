@@ -3,7 +3,7 @@ use Rattle.std.proofs.Common.{◌≡◌, ℕ, ◌+◌, ◌<◌, ◌≤◌, List,
 use Rattle.std.specs.Iterator.{YieldsThen}
 use Rattle.std.specs.Range.{range_inclusive_end}
 use Rattle.icu_codepointtrie.specs.CodePointMaps.{CodePointMap, mapped}
-use Rattle.icu_codepointtrie.specs.Places.{TrieTables}
+use Rattle.icu_codepointtrie.specs.Slots.{TrieTables}
 use Rattle.icu_codepointtrie.specs.BuiltTries.{IsTrieOf}
 use Rattle.icu_codepointtrie.specs.Ranges.{IsRangeFrom}
 use Rattle.icu_codepointtrie.specs.RangeIterators.{ranges_trie, ranges_start}

@@ -4,15 +4,15 @@ use Rattle.std.specs.Option.{option_eq}
 use Rattle.std.proofs.lemmas.Bool.Decides.{nat_tests}
 use Rattle.std.specs.Prelude.{not, nat_eq, None, nat_lt, slice_get, IfSome}
 use Rattle.std.proofs.lemmas.Bool.{lt-ltb, le-ltb, cases_lt}
-use Rattle.icu_codepointtrie.specs.Places.{TrieTables, fast_limit, first_step, named_place, is_inside, place_or_last, has_cell, value_at}
+use Rattle.icu_codepointtrie.specs.Slots.{TrieTables, fast_limit, first_step, named_slot, is_inside, slot_or_last, has_cell, value_at}
 use Rattle.icu_codepointtrie.specs.Ranges.{IsConstant}
-use Rattle.icu_codepointtrie.specs.SharedBlocks.{key_width, key_place, IsKey, IsUniform}
+use Rattle.icu_codepointtrie.specs.SharedBlocks.{key_width, key_slot, IsKey, IsUniform}
 
--- the places of a block of 512 are those that the cell of its second step names
-upper_place : {T : Type 0} (t : TrieTables T) (c second block : ℕ) → fast_limit t.header.trie_type ≤ c → c + 512 ≤ t.header.high_start → c ≤ 0x10_FFFF → c % 512 ≡ 0
+-- the slots of a block of 512 are those that the cell of its second step names
+upper_slot : {T : Type 0} (t : TrieTables T) (c second block : ℕ) → fast_limit t.header.trie_type ≤ c → c + 512 ≤ t.header.high_start → c ≤ 0x10_FFFF → c % 512 ≡ 0
     → slice_get t.index (c / 2 ^ 14 + first_step t.header.trie_type) ≡ Some second → slice_get t.index (second + c / 2 ^ 9 % 32) ≡ Some block
-    → (r : ℕ) → r < 512 → named_place t.header t.index (length t.cells) (c + r) ≡ key_place t.index (0x1_0000 + block) r
-upper_place t c second block from to last aligned first next r inside =
+    → (r : ℕ) → r < 512 → named_slot t.header t.index (length t.cells) (c + r) ≡ key_slot t.index (0x1_0000 + block) r
+upper_slot t c second block from to last aligned first next r inside =
     let wide : nat_lt (0x1_0000 + block) 0x1_0000 ≡ false = le-ltb (0x1_0000 + block) 0x1_0000 (omega arith) in
     let back : 0x1_0000 + block - 0x1_0000 ≡ block = omega arith in
     let group : (c + r) / 2 ^ 14 ≡ c / 2 ^ 14 = omega arith in
@@ -29,8 +29,8 @@ upper_is_key t c second block from to last aligned first next =
     let width : key_width (0x1_0000 + block) ≡ 512 = simp wide refl in
     record {
       inside = rw width (omega arith);
-      values = λ r below. ap (λ p. slice_get t.cells (place_or_last p (length t.cells))) (upper_place t c second block from to last aligned first next r (omega (arith, width)));
-      cells = λ r below. ap (λ p. is_inside p (length t.cells)) (upper_place t c second block from to last aligned first next r (omega (arith, width)));
+      values = λ r below. ap (λ p. slice_get t.cells (slot_or_last p (length t.cells))) (upper_slot t c second block from to last aligned first next r (omega (arith, width)));
+      cells = λ r below. ap (λ p. is_inside p (length t.cells)) (upper_slot t c second block from to last aligned first next r (omega (arith, width)));
     }
 
 -- a block like one that was read has the value too

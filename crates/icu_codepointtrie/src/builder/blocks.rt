@@ -40,12 +40,12 @@ impl Hash for Block {
     }
 }
 
-/// The number of the value at a place.
-pub(super) fn number_at<T: TrieValue>(values: &[T], place: usize) -> u32
-    requires { place < length values.now }
-    ensures { result ≡ slice_index (map T.number values.now) place }
+/// The number of the value at a slot.
+pub(super) fn number_at<T: TrieValue>(values: &[T], slot: usize) -> u32
+    requires { slot < length values.now }
+    ensures { result ≡ slice_index (map T.number values.now) slot }
 {
-    values[place].to_u32()
+    values[slot].to_u32()
 }
 
 /// Whether two blocks are alike. All values are always compared, which takes few instructions.
@@ -55,9 +55,9 @@ pub(super) fn are_alike<T: TrieValue>(values: &[T], width: usize, one: usize, ot
     ensures { IsTrue result ↔ (block width (map T.number values.now) one ≡ block width (map T.number values.now) other) }
 {
     let mut alike = true;
-    for place in 0..width {
-        let first = number_at(values, one * width + place);
-        alike &= first == number_at(values, other * width + place);
+    for slot in 0..width {
+        let first = number_at(values, one * width + slot);
+        alike &= first == number_at(values, other * width + slot);
     }
     alike
 }
@@ -68,8 +68,8 @@ pub(super) fn has_only<T: TrieValue>(values: &[T], width: usize, number: usize, 
     ensures { IsTrue result ↔ ((i : ℕ) → i < width → slice_index (map T.number values.now) (number * width + i) ≡ value) }
 {
     let mut alike = true;
-    for place in 0..width {
-        alike &= number_at(values, number * width + place) == value;
+    for slot in 0..width {
+        alike &= number_at(values, number * width + slot) == value;
     }
     alike
 }

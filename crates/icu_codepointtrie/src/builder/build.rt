@@ -1,6 +1,6 @@
 //! The trie of a map.
 ghost use Rattle.std.specs.Prelude.{◌≡◌, ◌+◌, ◌*◌, ◌<◌, ◌≤◌, ◌⊎◌, length, map, take, drop, IfOk, IfErr};
-ghost use Rattle.icu_codepointtrie.specs.Places.{fast_limit};
+ghost use Rattle.icu_codepointtrie.specs.Slots.{fast_limit};
 ghost use Rattle.icu_codepointtrie.specs.Blocks.{different_blocks, upper_blocks};
 ghost use Rattle.icu_codepointtrie.specs.BuiltTries.{IsTrieOf, AreAllCells};
 ghost use Rattle.icu_codepointtrie.specs.declared.builder.compaction.CodePointTrieBuildError.TheVariants.{TooLarge, Memory};

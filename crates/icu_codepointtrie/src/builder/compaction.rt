@@ -1,6 +1,6 @@
 //! Blocks of values that are kept once each.
 ghost use Rattle.std.specs.Prelude.{◌≡◌, ℕ, ◌+◌, ◌*◌, ◌<◌, ◌≤◌, ◌⊎◌, map, length, slice_index, IfOk, IfErr, IfSome};
-ghost use Rattle.icu_codepointtrie.specs.Blocks.{AreKept, ArePlaces, IsKeptAt, HasMore, FindsKept};
+ghost use Rattle.icu_codepointtrie.specs.Blocks.{AreKept, AreSlots, IsKeptAt, HasMore, FindsKept};
 ghost use Rattle.icu_codepointtrie.specs.declared.builder.compaction.CodePointTrieBuildError.TheVariants.{TooLarge, Memory};
 
 use super::super::value::TrieValue;
@@ -35,13 +35,13 @@ impl From<AllocError> for CodePointTrieBuildError {
 /// The blocks of one width from a first one on, each kept once.
 #[derive(Drop)]
 pub(super) struct Compaction {
-    /// For each block the place among the kept ones of the one that it is like.
-    pub(super) places: Vec<usize>,
+    /// For each block the slot among the kept ones of the one that it is like.
+    pub(super) slots: Vec<usize>,
     /// The numbers of the blocks that are kept.
     pub(super) kept: Vec<usize>,
 }
 
-/// The place of the kept block that is like this one, which is kept if there is none. The map finds
+/// The slot of the kept block that is like this one, which is kept if there is none. The map finds
 /// the kept blocks by their values.
 fn find_or_keep<T: TrieValue>(
     alloc: Global,
@@ -58,20 +58,20 @@ fn find_or_keep<T: TrieValue>(
     requires found { FindsKept width (map T.number values.now) kept.old.items found.old }
     ensures kept { IfOk result (λ _. AreKept width (map T.number values.now) first (number + 1) kept.new.items) }
     ensures found { IfOk result (λ _. FindsKept width (map T.number values.now) kept.new.items found.new) }
-    ensures place { IfOk result (IsKeptAt width (map T.number values.now) number kept.new.items) }
+    ensures slot { IfOk result (IsKeptAt width (map T.number values.now) number kept.new.items) }
     ensures grown { IfOk result (λ _. (i : ℕ) → i < length kept.old.items → (i < length kept.new.items) × (slice_index kept.new.items i ≡ slice_index kept.old.items i)) }
 {
     let block = block_of(alloc, values, width, number)?;
-    if let Some(place) = found.get(&block).copied() {
-        return Ok(place);
+    if let Some(slot) = found.get(&block).copied() {
+        return Ok(slot);
     }
-    let place = kept.len();
+    let slot = kept.len();
     kept.push(number)?;
-    found.insert(block, place)?;
-    Ok(place)
+    found.insert(block, slot)?;
+    Ok(slot)
 }
 
-/// The place of the kept block that is like this one, which is kept if there is none. The place of
+/// The slot of the kept block that is like this one, which is kept if there is none. The slot of
 /// the block before is tried first.
 fn keep<T: TrieValue>(
     alloc: Global,
@@ -83,19 +83,19 @@ fn keep<T: TrieValue>(
     last: Option<usize>,
     number: usize,
 ) -> Result<usize, AllocError>
-    requires last { IfSome last (λ place. place < length kept.old.items) }
+    requires last { IfSome last (λ slot. slot < length kept.old.items) }
     requires first { first ≤ number }
     requires number { number * width + width ≤ length values.now }
     requires kept { AreKept width (map T.number values.now) first number kept.old.items }
     requires found { FindsKept width (map T.number values.now) kept.old.items found.old }
     ensures kept { IfOk result (λ _. AreKept width (map T.number values.now) first (number + 1) kept.new.items) }
     ensures found { IfOk result (λ _. FindsKept width (map T.number values.now) kept.new.items found.new) }
-    ensures place { IfOk result (IsKeptAt width (map T.number values.now) number kept.new.items) }
+    ensures slot { IfOk result (IsKeptAt width (map T.number values.now) number kept.new.items) }
     ensures grown { IfOk result (λ _. (i : ℕ) → i < length kept.old.items → (i < length kept.new.items) × (slice_index kept.new.items i ≡ slice_index kept.old.items i)) }
 {
-    if let Some(place) = last {
-        if are_alike(values, width, kept[place], number) {
-            return Ok(place);
+    if let Some(slot) = last {
+        if are_alike(values, width, kept[slot], number) {
+            return Ok(slot);
         }
     }
     find_or_keep(alloc, values, width, first, kept, found, number)
@@ -115,25 +115,25 @@ impl Compaction {
         requires order { first ≤ end }
         requires whole { (b : ℕ) → b < end → b * width + width ≤ length values.now }
         ensures kept { IfOk result (λ blocks. AreKept width (map T.number values.now) first end blocks.kept.items) }
-        ensures places { IfOk result (λ blocks. ArePlaces width (map T.number values.now) first end blocks.places.items blocks.kept.items) }
+        ensures slots { IfOk result (λ blocks. AreSlots width (map T.number values.now) first end blocks.slots.items blocks.kept.items) }
         ensures few { IfOk result (λ blocks. length blocks.kept.items ≤ limit) }
         ensures refused { IfErr result (λ e. (e ≡ Memory) ⊎ ((e ≡ TooLarge) × HasMore width (map T.number values.now) first end limit)) }
     {
-        let mut places = Vec::new(alloc);
+        let mut slots = Vec::new(alloc);
         let mut kept = Vec::new(alloc);
         let mut found = HashMap::new(alloc);
         for number in first..end {
-            let last = places.last().copied();
-            let place = keep(
+            let last = slots.last().copied();
+            let slot = keep(
                 alloc, values, width, first, &mut kept, &mut found, last, number,
             )?;
             if kept.len() > limit {
                 return Err(CodePointTrieBuildError::TooLarge);
             }
-            if places.push(place).is_err() {
+            if slots.push(slot).is_err() {
                 return Err(CodePointTrieBuildError::Memory);
             }
         }
-        Ok(Compaction { places, kept })
+        Ok(Compaction { slots, kept })
     }
 }

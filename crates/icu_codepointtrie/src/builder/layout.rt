@@ -1,6 +1,6 @@
 //! Where the tables of a built trie have each part.
 ghost use Rattle.std.specs.Prelude.{◌≡◌, ℕ, ◌+◌, ◌-◌, ◌*◌, ◌/◌, ◌^◌, ◌<◌, ◌≤◌, ◌⊎◌, [], map, length, slice_index, IfOk, IfErr};
-ghost use Rattle.icu_codepointtrie.specs.Places.{fast_limit};
+ghost use Rattle.icu_codepointtrie.specs.Slots.{fast_limit};
 ghost use Rattle.icu_codepointtrie.specs.Blocks.{HasMore};
 ghost use Rattle.icu_codepointtrie.specs.DataCells.{Stands};
 ghost use Rattle.icu_codepointtrie.specs.Layouts.{AreBounded, IsLayout, IsLastRun, AreFew, second_start, small_room, third_start, index_cell, HasCells, HasIndex};
@@ -9,7 +9,7 @@ ghost use Rattle.icu_codepointtrie.specs.declared.builder.compaction.CodePointTr
 use super::super::trie::{CodePointTrieHeader, TrieType};
 use super::super::value::TrieValue;
 use super::blocks::{has_only, number_at};
-use super::cells::{items_at, places_of, put_value};
+use super::cells::{items_at, put_value, slots_of};
 use super::compaction::{CodePointTrieBuildError, Compaction};
 use super::thirds::third_blocks;
 use std::alloc::{AllocError, Global};
@@ -58,8 +58,8 @@ fn put_first_blocks<T: TrieValue>(cells: &mut Vec<T>, values: &[T]) -> Result<()
     ensures count { IfOk result (λ _. length cells.new.items ≡ 128) }
     ensures stand { IfOk result (λ _. Stands (map T.number values.now) 0 (map T.number cells.new.items) 0 128) }
 {
-    for place in 0..128 {
-        put_value(cells, values, place)?;
+    for slot in 0..128 {
+        put_value(cells, values, slot)?;
     }
     Ok(())
 }
@@ -111,11 +111,11 @@ impl Layout {
     {
         let limit = trie_type.fast_limit() as usize;
         put_first_blocks(cells, values)?;
-        let fast = places_of(alloc, cells, values, 64, 2, limit / 64, limit / 64 - 2)?;
+        let fast = slots_of(alloc, cells, values, 64, 2, limit / 64, limit / 64 - 2)?;
         let wide_end = end_of_blocks(values, limit);
         let wide = Compaction::new(alloc, values, 512, limit / 512, wide_end, 800)?;
         let room = small_room(trie_type);
-        let small = places_of(alloc, cells, values, 16, limit / 16, 32 * wide_end, room)?;
+        let small = slots_of(alloc, cells, values, 16, limit / 16, 32 * wide_end, room)?;
         let start = third_start(trie_type, wide_end);
         let blocks = third_blocks(
             alloc,
@@ -124,7 +124,7 @@ impl Layout {
             limit / 512,
             wide.kept.as_slice(),
         )?;
-        let seconds = items_at(alloc, blocks.entries.as_slice(), wide.places.as_slice())?;
+        let seconds = items_at(alloc, blocks.entries.as_slice(), wide.slots.as_slice())?;
         Ok(Layout {
             trie_type,
             wide_end,
@@ -134,25 +134,25 @@ impl Layout {
         })
     }
 
-    /// The index cell at a place before the third blocks.
+    /// The index cell at a slot before the third blocks.
     #[tactic(auto, unfolding(crate::specs::Layouts::index_cell))]
-    fn index_cell(&self, place: usize) -> u16
+    fn index_cell(&self, slot: usize) -> u16
         requires bounds { AreBounded self.now }
-        requires place { place < third_start self.now.trie_type self.now.wide_end }
-        ensures { result ≡ index_cell self.now place }
+        requires slot { slot < third_start self.now.trie_type self.now.wide_end }
+        ensures { result ≡ index_cell self.now slot }
     {
         let limit = self.trie_type.fast_limit() as usize;
         let second = second_start(self.trie_type, self.wide_end);
-        let cell = if place < limit / 64 {
-            if place < 2 {
-                64 * place
+        let cell = if slot < limit / 64 {
+            if slot < 2 {
+                64 * slot
             } else {
-                self.fast[place - 2]
+                self.fast[slot - 2]
             }
-        } else if place < second {
-            second - limit / 512 + 32 * (place - self.trie_type.first_step())
+        } else if slot < second {
+            second - limit / 512 + 32 * (slot - self.trie_type.first_step())
         } else {
-            self.seconds[place - second]
+            self.seconds[slot - second]
         };
         cell as u16
     }
@@ -163,8 +163,8 @@ impl Layout {
         ensures { IfOk result (λ head. HasCells self.now head.items) }
     {
         let mut head = Vec::new(*self.thirds.allocator());
-        for place in 0..third_start(self.trie_type, self.wide_end) {
-            head.push(self.index_cell(place))?;
+        for slot in 0..third_start(self.trie_type, self.wide_end) {
+            head.push(self.index_cell(slot))?;
         }
         Ok(head)
     }

@@ -1,7 +1,7 @@
 //! The walk over the ranges of a trie that have one value.
 ghost use Rattle.std.specs.Prelude.{◌≡◌, ◌-◌, ◌≤◌, ◌+◌, Some, IfOk, MatchOption};
 ghost use Rattle.std.specs.Iterator.{at_most};
-ghost use Rattle.icu_codepointtrie.specs.Places.{value_at};
+ghost use Rattle.icu_codepointtrie.specs.Slots.{value_at};
 ghost use Rattle.icu_codepointtrie.specs.Ranges.{IsAbsent, IsNextRangeOf, IsPreimage};
 ghost use Rattle.icu_codepointtrie.specs.RangeIterators.{for_value_trie, for_value_value, for_value_start};
 

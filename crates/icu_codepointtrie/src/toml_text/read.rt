@@ -3,7 +3,7 @@ ghost use Rattle.std.specs.Prelude.{◌≡◌, ◌^◌, ◌<◌, nat_lt, codes, 
 ghost use Rattle.toml.specs.View.{view, table_view, array_view, items_view};
 ghost use Rattle.toml.specs.Data.{get_member};
 ghost use Rattle.icu_codepointtrie.specs.TrieValues.{fitting};
-ghost use Rattle.icu_codepointtrie.specs.Places.{IsTrie};
+ghost use Rattle.icu_codepointtrie.specs.Slots.{IsTrie};
 ghost use Rattle.icu_codepointtrie.specs.TomlTables.{value_in, values_in, value_at_key, values_at_key, trie_type_named, trie_type_in, header_in, tables_in, tables_of_text, IsTomlRefused};
 
 use super::super::trie::{CodePointTrie, CodePointTrieHeader, TrieType};

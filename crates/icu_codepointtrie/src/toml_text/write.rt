@@ -85,8 +85,8 @@ fn integers_of<T: TrieValue>(
     ensures reads_back { IfOk result (λ array. values_in T.of_number (array_view array) ≡ Some values.now) }
 {
     let mut array = Vec::new(alloc);
-    for place in 0..values.len() {
-        let value = values.get(place).unwrap();
+    for slot in 0..values.len() {
+        let value = values.get(slot).unwrap();
         array.push(Value::from(value.to_u32()))?;
     }
     Ok(array)

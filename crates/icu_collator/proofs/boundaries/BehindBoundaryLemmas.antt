@@ -1,4 +1,4 @@
--- Lists that begin with three characters with which no prefix is recorded are read alike behind any characters, for a prefix
+-- Lists that begin with three characters with which no prefix is recorded are read alike after any characters, for a prefix
 -- has at most three.
 use Rattle.std.proofs.Common.{◌≡◌, ℕ, ◌<◌, ◌≤◌, ◌&&◌, true, ltb, leb, List, [], ◌∷◌, ◌++◌, length, take, reverse, refl, sym, subst, ◌∙◌, arith, Option, None}
 use Rattle.std.specs.List.{AllByRecursion}

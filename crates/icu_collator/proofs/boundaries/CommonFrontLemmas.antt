@@ -1,4 +1,4 @@
--- A common front may be skipped where nothing is shifted, or where what stands behind it begins with a primary weight.
+-- A common front may be skipped where nothing is shifted, or where what stands after it begins with a primary weight.
 use Rattle.std.proofs.Common.{◌≡◌, ℕ, ◌==◌, false, List, [], ◌∷◌, ◌++◌, subst, sym, ◌∙◌}
 use Rattle.std.specs.Prelude.{All}
 use Rattle.std.specs.Char.{IsScalar}
@@ -57,7 +57,7 @@ module _ (collation : Collation) (options : ResolvedCollatorOptions) (a : ℕ) (
         front_skipped collation options decomposing a m b n c front first_apart forward x p q
         (counts_apart (m ++ b ∷ (n ++ c ∷ p)) h) (counts_apart (m ++ b ∷ (n ++ c ∷ q)) g) h g
 
--- three boundaries, one behind another, that decomposing leaves as they are
+-- three boundaries, one after another, that decomposing leaves as they are
 module _ (collation : Collation) (options : ResolvedCollatorOptions) (a b c : ℕ) (x p q : List ℕ) (decomposing : IsDecomposing collation.canonical) (forward : collation.backward ≡ false) (first : IsOwnBoundary collation.canonical collation.weights a) (second : IsOwnBoundary collation.canonical collation.weights b) (third : IsOwnBoundary collation.canonical collation.weights c) (h : All IsScalar (x ++ a ∷ b ∷ c ∷ p)) (g : All IsScalar (x ++ a ∷ b ∷ c ∷ q)) where
   abbrev boundaries : IsFront collation.canonical collation.weights a [] b [] c
   boundaries =

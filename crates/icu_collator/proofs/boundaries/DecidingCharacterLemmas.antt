@@ -25,7 +25,8 @@ use Rattle.icu_collator.specs.Shifted.{Counted, counted, counted_behind, whole}
 use Rattle.icu_collator_core.proofs.readings.SplitAtBoundaryLemmas.{after_scalars}
 use Rattle.icu_collator.proofs.boundaries.DecomposedAtLemmas.{behind_first, decomposed_at}
 use Rattle.icu_collator.proofs.boundaries.LevelFrontLemmas.{ranks_behind, ranks_end, ranks_on}
-use Rattle.icu_collator.proofs.boundaries.SkippingLemmas.{decomposed_characters, list_from, scalars_parts}
+use Rattle.icu_normalizer_core.proofs.decomposed_lists.ScalarLemmas.{decomposed_characters, scalars_parts}
+use Rattle.icu_collator.proofs.boundaries.SkippingLemmas.{list_from}
 use Rattle.icu_collator.proofs.numbers.NumberLevelLemmas.{behind_after, counted_append, decided, first_decides}
 use Rattle.icu_collator_core.proofs.lookups.PlacedLemmas.{characters_placed}
 
@@ -41,7 +42,7 @@ module _ (collation : Collation) (options : ResolvedCollatorOptions) (decomposin
         accent = plain.accent;
       }
 
-  -- what is read behind it in a list
+  -- what is read after it in a list
   unfoldable pub read_behind : List ℕ → List ℕ → List Element
   read_behind list ds =
       elements_within (length ds) collation.canonical collation.weights numeric (placed_behind (take 3 (plain.first ∷ after [] list)) ds)
@@ -81,7 +82,7 @@ module _ (collation : Collation) (options : ResolvedCollatorOptions) (decomposin
   unfolding decomposed marks_in_order elements_within placed_behind
   text_begins y h = text_elements [] y h
 
--- an element that counts whole, behind others
+-- an element that counts whole, after others
 module _ (collation : Collation) (options : ResolvedCollatorOptions) (bits : ℕ) (counts : CountsWhole collation options bits) where
   counted_whole : (b : Bool) (es : List Element)
       → counted_behind collation options b (element_of bits ∷ es) ≡ whole (element_of bits) ∷ counted_behind collation options false es
@@ -130,7 +131,7 @@ plain_characters_decide collation options common a b xs ys bits other d h g firs
     in first_decides options (levels_of_text collation options (common ++ a ∷ xs)) (levels_of_text collation options (common ++ b ∷ ys)) (nat_cmp (reordered_primary collation bits) (reordered_primary collation other))
     (rw (p, q) (primaries_decide (filter_map (primary_at collation) (counted collation options es)) _ _ (reordered_primary collation bits) (reordered_primary collation other) differ)) differ
 
--- a text that goes on with a plain character is behind the text that ends
+-- a text that goes on with a plain character is after the text that ends
 module _ (collation : Collation) (options : ResolvedCollatorOptions) (common : List ℕ) (c : ℕ) (xs : List ℕ) (bits : ℕ) (d : IsDecomposing collation.canonical) (h : All IsScalar (common ++ c ∷ xs)) (plain : IsPlain collation c bits) (counts : CountsWhole collation options bits) where
   abbrev front : List ℕ
   front = (levels_of_text collation options common).primaries

@@ -11,7 +11,7 @@ module _ (canonical : Canonical) where
   abbrev full : ℕ → List ℕ
   full = canonical.full
 
-  -- what stands behind the first of a full list
+  -- what stands after the first of a full list
   unfoldable pub behind_first : List ℕ → List ℕ → List ℕ
   behind_first others y = marks_in_order canonical.class (others ++ flat_map full y)
 
@@ -23,7 +23,7 @@ module _ (canonical : Canonical) where
       ap (marks_in_order canonical.class) (flat_map-append full x (c ∷ y) ∙ ap (λ (w : List ℕ). flat_map full x ++ (w ++ flat_map full y)) is)
       ∙ order_before canonical.class d (flat_map full x) (ds ++ flat_map full y) starter
 
-  -- such a character behind others
+  -- such a character after others
   behind_at : (others m y : List ℕ) (c d : ℕ) (ds : List ℕ) → full c ≡ d ∷ ds → canonical.class d ≡ 0
       → behind_first others (m ++ c ∷ y) ≡ behind_first others m ++ d ∷ behind_first ds y
   unfolding behind_first
@@ -33,7 +33,7 @@ module _ (canonical : Canonical) where
       ∙ ap (marks_in_order canonical.class) (sym (append_assoc others (flat_map full m) (d ∷ ds ++ flat_map full y)))
       ∙ order_before canonical.class d (others ++ flat_map full m) (ds ++ flat_map full y) starter
 
-  -- what holds of each character of the full lists holds of each behind the first
+  -- what holds of each character of the full lists holds of each after the first
   behind_all : (P : ℕ → Type 0) (others y : List ℕ) → AllByRecursion P others → AllByRecursion (λ c. AllByRecursion P (full c)) y
       → AllByRecursion P (behind_first others y)
   unfolding behind_first

@@ -17,7 +17,7 @@ use Rattle.icu_collator.proofs.boundaries.CommonFrontLemmas.{equal_itself, front
 use Rattle.icu_collator.proofs.boundaries.SkippingLemmas.{IsFront}
 use Rattle.icu_collator.proofs.boundaries.DecidingCharacterLemmas.{end_behind, end_first, plain_characters_decide}
 
--- a list that begins as another does, up to a place that both reach
+-- a list that begins as another does, up to an index that both reach
 shared : (us xs ys vs ws : List ℕ) → us ++ xs ≡ vs ++ ws → length vs ≤ length us → (q : List ℕ) × (us ++ ys ≡ vs ++ q)
 shared us xs ys [] ws e l = (us ++ ys, refl)
 shared [] xs ys (v ∷ vs) ws e l = absurd (omega arith)
@@ -70,7 +70,7 @@ passed_skipped collation options d forward before p q x m y n z first between se
       | inr primary ↦ front_skipped_at_primary collation options x m y n z before p q d forward front h g primary.bits primary.plain primary.filled
     ]
 
--- three characters that pass, and what stands before, between and behind them
+-- three characters that pass, and what stands before, between and after them
 three_parts : (before : List ℕ) (x : ℕ) (m : List ℕ) (y : ℕ) (n : List ℕ) (z : ℕ) (r : List ℕ)
     → (before ++ x ∷ (m ++ y ∷ (n ++ z ∷ []))) ++ r ≡ before ++ x ∷ (m ++ y ∷ (n ++ z ∷ r))
 three_parts before x m y n z r =
@@ -117,10 +117,10 @@ module _ (collation : Collation) (options : ResolvedCollatorOptions) (decomposin
       in order_is _ _ left right ∙ equal_itself collation options (part.front ++ [])
 
   -- from three passages on, which both texts have
-  three_skipped : (place : ℕ) (left right : Option ℕ) → collation.backward ≡ false → PartAt a b common left right
-      → ThreeStandAt (IsPassage collation options) (GoesOn collation.canonical collation.weights) a common place
-      → collation_order collation options a b ≡ collation_order collation options (drop place a) (drop place b)
-  three_skipped place left right forward part three =
+  three_skipped : (index : ℕ) (left right : Option ℕ) → collation.backward ≡ false → PartAt a b common left right
+      → ThreeStandAt (IsPassage collation options) (GoesOn collation.canonical collation.weights) a common index
+      → collation_order collation options a b ≡ collation_order collation options (drop index a) (drop index b)
+  three_skipped index left right forward part three =
       let before = three.before
       in let x = three.first
       in let m = three.between
@@ -133,22 +133,22 @@ module _ (collation : Collation) (options : ResolvedCollatorOptions) (decomposin
       in let within : length vs ≤ length part.front = omega (arith, three.within, part.count)
       in let found = shared part.front part.left_rest part.right_rest vs three.behind whole within
       in let right_is : b ≡ before ++ x ∷ (m ++ y ∷ (n ++ z ∷ found.0)) = part.right_is ∙ found.1 ∙ three_parts before x m y n z found.0
-      in let one : drop place a ≡ x ∷ (m ++ y ∷ (n ++ z ∷ three.behind)) =
-      ap (drop place) three.text_is ∙ drop_at before (x ∷ (m ++ y ∷ (n ++ z ∷ three.behind))) place three.place_is
-      in let other : drop place b ≡ x ∷ (m ++ y ∷ (n ++ z ∷ found.0)) = ap (drop place) right_is ∙ drop_at before (x ∷ (m ++ y ∷ (n ++ z ∷ found.0))) place three.place_is
+      in let one : drop index a ≡ x ∷ (m ++ y ∷ (n ++ z ∷ three.behind)) =
+      ap (drop index) three.text_is ∙ drop_at before (x ∷ (m ++ y ∷ (n ++ z ∷ three.behind))) index three.place_is
+      in let other : drop index b ≡ x ∷ (m ++ y ∷ (n ++ z ∷ found.0)) = ap (drop index) right_is ∙ drop_at before (x ∷ (m ++ y ∷ (n ++ z ∷ found.0))) index three.place_is
       in let ok = subst (λ (w : List ℕ). All IsScalar w) three.text_is h
       in let also = subst (λ (w : List ℕ). All IsScalar w) right_is g
       in let skipped =
       passed_skipped collation options decomposing forward before three.behind found.0 x m y n z three.first_passes three.between_goes_on three.second_passes
       three.further_goes_on three.third_passes ok also
       in order_is _ _ three.text_is right_is ∙ skipped
-      ∙ sym (ap (λ (w : List ℕ). collation_order collation options w (drop place b)) one ∙ ap (λ (w : List ℕ). collation_order collation options (x ∷ (m ++ y ∷ (n ++ z ∷ three.behind))) w) other)
+      ∙ sym (ap (λ (w : List ℕ). collation_order collation options w (drop index b)) one ∙ ap (λ (w : List ℕ). collation_order collation options (x ∷ (m ++ y ∷ (n ++ z ∷ three.behind))) w) other)
 
-  pub front_skipped_to : (place : ℕ) (left right : Option ℕ) → collation.backward ≡ false → PartAt a b common left right
-      → IsPlaceToBegin (IsPassage collation options) (GoesOn collation.canonical collation.weights) a common place
-      → collation_order collation options a b ≡ collation_order collation options (drop place a) (drop place b)
-  front_skipped_to place left right forward part stands =
+  pub front_skipped_to : (index : ℕ) (left right : Option ℕ) → collation.backward ≡ false → PartAt a b common left right
+      → IsPlaceToBegin (IsPassage collation options) (GoesOn collation.canonical collation.weights) a common index
+      → collation_order collation options a b ≡ collation_order collation options (drop index a) (drop index b)
+  front_skipped_to index left right forward part stands =
       ⊎_elim
       (λ none. sym (ap (λ (k : ℕ). collation_order collation options (drop k a) (drop k b)) none))
-      (λ three. three_skipped place left right forward part three)
+      (λ three. three_skipped index left right forward part three)
       stands

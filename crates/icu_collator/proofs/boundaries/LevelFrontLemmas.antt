@@ -1,4 +1,4 @@
--- Levels of elements behind common ones: where the elements count apart from those and secondaries aren't read backward,
+-- Levels of elements after common ones: where the elements count apart from those and secondaries aren't read backward,
 -- they compare as they do without the common ones.
 use Rattle.std.proofs.Common.{◌≡◌, ℕ, Bool, false, ◌==◌, List, [], ◌∷◌, ◌++◌, refl, ap, ◌∙◌, Option, filter_map}
 use Rattle.std.proofs.lemmas.Bool.{and_right}
@@ -32,7 +32,7 @@ pub ranks_on : {W : Type 0} (rank : W → ℕ) (us : List W) (x : W) (xs : List 
 ranks_on rank [] x xs = refl
 ranks_on rank (u ∷ us) x xs = ranks_equal rank u (us ++ x ∷ xs) us ∙ ranks_on rank us x xs
 
--- what elements give at one level behind common ones
+-- what elements give at one level after common ones
 level_behind : {W : Type 0} (rank : W → ℕ) (weight : Counted → Option W) (us xs ys : List Counted)
     → list_order rank (filter_map weight (us ++ xs)) (filter_map weight (us ++ ys)) ≡ list_order rank (filter_map weight xs) (filter_map weight ys)
 level_behind rank weight us xs ys =
@@ -82,7 +82,7 @@ module _ (collation : Collation) (options : ResolvedCollatorOptions) (forward : 
   secondaries_forward : (es : List Counted) → secondaries_of collation es ≡ filter_map secondary_at es
   secondaries_forward es = rw forward refl
 
-  -- levels behind those of common elements and characters
+  -- levels after those of common elements and characters
   pub levels_behind : (es fs gs : List Element) (us xs ys : List ℕ) → CountApart collation options fs → CountApart collation options gs
       → levels_order options (levels_of collation options (es ++ fs) (us ++ xs)) (levels_of collation options (es ++ gs) (us ++ ys))
       ≡ levels_order options (levels_of collation options fs xs) (levels_of collation options gs ys)

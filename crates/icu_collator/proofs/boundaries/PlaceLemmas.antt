@@ -8,25 +8,25 @@ use Rattle.icu_normalizer_core.proofs.decomposed_lists.DecomposedLemmas.{all_app
 use Rattle.icu_normalizer_core.proofs.decomposed_lists.IterLemmas.{Spells-next}
 use Rattle.icu_collator.specs.Fronts.{IsPlaceToBegin, ThreeStandAt}
 
--- a character that passes stands at a place of a list, and what stands behind it goes on
-pub record OneStandsAt (Passes GoesOn : ℕ → Type 0) (list : List ℕ) (place : ℕ) : Type 0 where
+-- a character that passes stands at an index of a list, and what stands after it goes on
+pub record OneStandsAt (Passes GoesOn : ℕ → Type 0) (list : List ℕ) (index : ℕ) : Type 0 where
   pub before : List ℕ
   pub first : ℕ
   pub behind : List ℕ
   pub list_is : list ≡ before ++ first ∷ behind
-  pub place_is : length before ≡ place
+  pub place_is : length before ≡ index
   pub first_passes : Passes first
   pub behind_goes_on : AllByRecursion GoesOn behind
 
--- another one stands behind it, and what else does goes on
-pub record TwoStandAt (Passes GoesOn : ℕ → Type 0) (list : List ℕ) (place : ℕ) : Type 0 where
+-- another one stands after it, and what else does goes on
+pub record TwoStandAt (Passes GoesOn : ℕ → Type 0) (list : List ℕ) (index : ℕ) : Type 0 where
   pub before : List ℕ
   pub first : ℕ
   pub between : List ℕ
   pub second : ℕ
   pub behind : List ℕ
   pub list_is : list ≡ before ++ first ∷ (between ++ second ∷ behind)
-  pub place_is : length before ≡ place
+  pub place_is : length before ≡ index
   pub first_passes : Passes first
   pub between_goes_on : AllByRecursion GoesOn between
   pub second_passes : Passes second
@@ -43,8 +43,8 @@ module _ {I : Type 0} (steps : I → Option ℕ → I → Type 0) (Passes GoesOn
   abbrev TwoAt : List ℕ → ℕ → Type 0
   TwoAt = TwoStandAt Passes GoesOn
 
-  -- so many characters were read, a place was found, and these are the last two that pass
-  pub record SearchedSoFar (place read : ℕ) (earlier latest : Option ℕ) (it : I) : Type 0 where
+  -- so many characters were read, an index was found, and these are the last two that pass
+  pub record SearchedSoFar (index read : ℕ) (earlier latest : Option ℕ) (it : I) : Type 0 where
     pub done : List ℕ
     pub rest : List ℕ
     pub text_is : text ≡ done ++ rest
@@ -52,7 +52,7 @@ module _ {I : Type 0} (steps : I → Option ℕ → I → Type 0) (Passes GoesOn
     pub count : length done ≡ read
     pub latest_stands : IfSome latest (λ k. OneAt done k)
     pub two_stand : IfSome earlier (λ k. TwoAt done k)
-    pub is_place : IsPlaceToBegin Passes GoesOn text common place
+    pub is_index : IsPlaceToBegin Passes GoesOn text common index
 
   pub search_begins : (it : I) → Spells steps it text → SearchedSoFar 0 0 None None it
   search_begins it h =
@@ -64,11 +64,11 @@ module _ {I : Type 0} (steps : I → Option ℕ → I → Type 0) (Passes GoesOn
         count = refl;
         latest_stands = tt;
         two_stand = tt;
-        is_place = inl refl;
+        is_index = inl refl;
       }
 
   -- one character more
-  module _ (place read : ℕ) (earlier latest : Option ℕ) (c : ℕ) (it next : I) (so : SearchedSoFar place read earlier latest it) (step : steps it (Some c) next) where
+  module _ (index read : ℕ) (earlier latest : Option ℕ) (c : ℕ) (it next : I) (so : SearchedSoFar index read earlier latest it) (step : steps it (Some c) next) where
     abbrev rest_is : (rest : List ℕ) × (so.rest ≡ c ∷ rest) × Spells steps next rest
     rest_is = Spells-next steps it next c so.rest step so.spells
 
@@ -113,7 +113,7 @@ module _ {I : Type 0} (steps : I → Option ℕ → I → Type 0) (Passes GoesOn
           behind_goes_on = all_append GoesOn two.behind (c ∷ []) two.behind_goes_on (on, tt);
         }
 
-    pub search_goes_on : GoesOn c → SearchedSoFar place (read + 1) earlier latest next
+    pub search_goes_on : GoesOn c → SearchedSoFar index (read + 1) earlier latest next
     search_goes_on on =
         record {
           done = more;
@@ -123,11 +123,11 @@ module _ {I : Type 0} (steps : I → Option ℕ → I → Type 0) (Passes GoesOn
           count = more_count;
           latest_stands = if_some latest (OneAt so.done) (OneAt more) (one_goes_on on) so.latest_stands;
           two_stand = if_some earlier (TwoAt so.done) (TwoAt more) (two_go_on on) so.two_stand;
-          is_place = so.is_place;
+          is_index = so.is_index;
         }
 
     -- what stands before it may count
-    pub search_anew : SearchedSoFar place (read + 1) None None next
+    pub search_anew : SearchedSoFar index (read + 1) None None next
     search_anew =
         record {
           done = more;
@@ -137,7 +137,7 @@ module _ {I : Type 0} (steps : I → Option ℕ → I → Type 0) (Passes GoesOn
           count = more_count;
           latest_stands = tt;
           two_stand = tt;
-          is_place = so.is_place;
+          is_index = so.is_index;
         }
 
     -- it passes
@@ -187,11 +187,11 @@ module _ {I : Type 0} (steps : I → Option ℕ → I → Type 0) (Passes GoesOn
             third_passes = passes;
           }
 
-      found_place : (o : Option ℕ) → IfSome o (λ k. TwoAt so.done k) → IsPlaceToBegin Passes GoesOn text common (unwrap_or o place)
-      found_place None h = so.is_place
-      found_place (Some k) h = inr (now_three k h)
+      found_index : (o : Option ℕ) → IfSome o (λ k. TwoAt so.done k) → IsPlaceToBegin Passes GoesOn text common (unwrap_or o index)
+      found_index None h = so.is_index
+      found_index (Some k) h = inr (now_three k h)
 
-      pub search_passes : (found : ℕ) → found ≡ unwrap_or earlier place → SearchedSoFar found (read + 1) latest (Some read) next
+      pub search_passes : (found : ℕ) → found ≡ unwrap_or earlier index → SearchedSoFar found (read + 1) latest (Some read) next
       search_passes found found_is =
           record {
             done = more;
@@ -201,5 +201,5 @@ module _ {I : Type 0} (steps : I → Option ℕ → I → Type 0) (Passes GoesOn
             count = more_count;
             latest_stands = record { before = so.done; first = c; behind = []; list_is = refl; place_is = so.count; first_passes = passes; behind_goes_on = tt };
             two_stand = if_some latest (OneAt so.done) (TwoAt more) now_two so.latest_stands;
-            is_place = subst (λ (k : ℕ). IsPlaceToBegin Passes GoesOn text common k) (sym found_is) (found_place earlier so.two_stand);
+            is_index = subst (λ (k : ℕ). IsPlaceToBegin Passes GoesOn text common k) (sym found_is) (found_index earlier so.two_stand);
           }

@@ -1,4 +1,4 @@
--- Texts that have in common, behind a common front, three characters from which reading may go on compare as they do without
+-- Texts that have in common, after a common front, three characters from which reading may go on compare as they do without
 -- the front.
 use Rattle.std.proofs.Common.{◌≡◌, ℕ, suc, ◌≤◌, Bool, true, false, ◌&&◌, List, [], ◌∷◌, ◌++◌, length, take, refl, sym, ap, ◌∙◌, arith, length-append}
 use Rattle.std.specs.List.{AllByRecursion}
@@ -8,7 +8,7 @@ use Rattle.std.proofs.lemmas.Bool.{and_parts}
 use Rattle.std.proofs.lemmas.List.Elements.{recursion_from_All}
 use lib.Utf8.{scalar, scalars}
 use Rattle.icu_normalizer_core.specs.Canonical.{Canonical, IsDecomposing, decomposed, marks_in_order}
-use Rattle.icu_normalizer_core.proofs.decomposed_lists.DecomposedLemmas.{AreScalar, decomposed_all_scalars}
+use Rattle.icu_normalizer_core.proofs.decomposed_lists.ScalarLemmas.{decomposed_characters, scalars_parts}
 use Rattle.icu_collator_types.specs.declared.elements.Element.{Element}
 use Rattle.icu_collator_types.specs.declared.options.ResolvedCollatorOptions.{ResolvedCollatorOptions}
 use Rattle.icu_collator_types.specs.Options.{is_numeric}
@@ -28,22 +28,6 @@ use Rattle.icu_collator.proofs.boundaries.DecomposedAtLemmas.{behind_first, deco
 use Rattle.icu_collator.proofs.boundaries.LevelFrontLemmas.{levels_behind}
 use Rattle.icu_collator_core.proofs.readings.SplitAtBoundaryLemmas.{after_scalars, split_at_boundary}
 use Rattle.icu_collator_core.proofs.lookups.PlacedLemmas.{characters_placed, length_placed, placed_append}
-
-pub scalars_are : (cs : List ℕ) → AreScalar cs → scalars cs ≡ true
-scalars_are [] h = refl
-scalars_are (c ∷ cs) h = ap (λ b. b && scalars cs) h.0 ∙ scalars_are cs h.1
-
-pub scalars_parts : (xs ys : List ℕ) → scalars (xs ++ ys) ≡ true → (scalars xs ≡ true) × (scalars ys ≡ true)
-scalars_parts [] ys h = (refl, h)
-scalars_parts (x ∷ xs) ys h =
-    let parts = and_parts (scalar x) (scalars (xs ++ ys)) h
-    in let rest = scalars_parts xs ys parts.1
-    in (ap (λ b. b && scalars xs) parts.0 ∙ rest.0, rest.1)
-
--- the characters of a decomposed list are scalar values
-pub decomposed_characters : (canonical : Canonical) (text : List ℕ) → IsDecomposing canonical → All IsScalar text → scalars (decomposed canonical text) ≡ true
-decomposed_characters canonical text d h =
-    scalars_are (decomposed canonical text) (recursion_from_All IsScalar (decomposed canonical text) (decomposed_all_scalars canonical text d h))
 
 -- the elements of a list that goes on at a boundary
 pub list_from : (canonical : Canonical) (weights : Weights) (numeric : Bool) (xs : List ℕ) (d : ℕ) (ds : List ℕ)

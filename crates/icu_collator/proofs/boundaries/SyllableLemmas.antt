@@ -59,7 +59,7 @@ module _ (canonical : Canonical) (d : IsDecomposing canonical) where
       let both = all_split front (c ∷ rest) h
       in all_append IsScalar front (canonical.full c ++ rest) both.0 (all_append IsScalar (canonical.full c) rest (full_alone_scalars c both.1.0) both.1.1)
 
-  -- a text that goes on behind a front with a syllable, and the same with the letters of this
+  -- a text that goes on after a front with a syllable, and the same with the letters of this
   record IsSpelled (text front before rest : List ℕ) (x : ℕ) : Type 0 where
     pub spelled : List ℕ
     pub same : decomposed canonical spelled ≡ decomposed canonical text

@@ -20,10 +20,10 @@ pair_written halves i whole before after inside so_far written =
     let b = get_or halves (i + 1) 0 in
     let two : drop i halves ≡ a ∷ b ∷ drop (i + 1 + 1) halves =
     drop_more halves i 0 (omega (arith, inside)) ∙ ap (λ l. a ∷ l) (drop_more halves (i + 1) 0 inside) in
-    let place : i + 1 + 1 ≡ i + 2 = omega arith in
+    let index : i + 1 + 1 ≡ i + 2 = omega arith in
     ap (λ l. l ++ paired_halves (drop (i + 2) halves)) written
     ∙ append_assoc before ((a * 16 + b) ∷ []) (paired_halves (drop (i + 2) halves))
-    ∙ sym (ap (λ l. before ++ paired_halves l) (two ∙ ap (λ n. a ∷ b ∷ drop n halves) place)) ∙ so_far
+    ∙ sym (ap (λ l. before ++ paired_halves l) (two ∙ ap (λ n. a ∷ b ∷ drop n halves) index)) ∙ so_far
 
 pub half_written :
     (halves : List ℕ) (i : ℕ) (whole before after : List ℕ) → i + 1 ≡ length halves → before ++ paired_halves (drop i halves) ≡ whole

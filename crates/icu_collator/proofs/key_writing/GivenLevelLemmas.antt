@@ -41,18 +41,18 @@ own_reordered collation (whole e) = cond_both (e.primary == 0) None (Some e.prim
 own_reordered collation (variable p) = refl
 
 -- what passes for all elements passes for one
-at_place : (p : Counted → Bool) (end : ℕ) (xs : List ℕ) (i d : ℕ) → i < length xs → list_all p (counted_list end xs) ≡ true → p (counted_by end (get_or xs i d)) ≡ true
-at_place p end [] i d inside all = absurd (omega (arith, inside))
-at_place p end (x ∷ xs) zero d inside all = (and_true (p (counted_by end x)) (list_all p (counted_list end xs)) all).0
-at_place p end (x ∷ xs) (suc i) d inside all =
-    at_place p end xs i d (omega (arith, inside)) (and_true (p (counted_by end x)) (list_all p (counted_list end xs)) all).1
+at_index : (p : Counted → Bool) (end : ℕ) (xs : List ℕ) (i d : ℕ) → i < length xs → list_all p (counted_list end xs) ≡ true → p (counted_by end (get_or xs i d)) ≡ true
+at_index p end [] i d inside all = absurd (omega (arith, inside))
+at_index p end (x ∷ xs) zero d inside all = (and_true (p (counted_by end x)) (list_all p (counted_list end xs)) all).0
+at_index p end (x ∷ xs) (suc i) d inside all =
+    at_index p end xs i d (omega (arith, inside)) (and_true (p (counted_by end x)) (list_all p (counted_list end xs)) all).1
 
 pub passes_at : (p : Counted → Bool) (end : ℕ) (xs : List ℕ) (i x : ℕ) → i < length xs → x ≡ get_or xs i x → list_all p (counted_list end xs) ≡ true
     → p (counted_by end x) ≡ true
-passes_at p end xs i x inside is all = ap (λ y. p (counted_by end y)) is ∙ at_place p end xs i x inside all
+passes_at p end xs i x inside is all = ap (λ y. p (counted_by end y)) is ∙ at_index p end xs i x inside all
 
 module _ (at : Counted → Option ℕ) (end : ℕ) (xs : List ℕ) where
-  -- what is left gives, from a place on
+  -- what is left gives, from an index on
   abbrev left_at : ℕ → List ℕ
   left_at i = filter_map at (counted_list end (drop i xs))
 

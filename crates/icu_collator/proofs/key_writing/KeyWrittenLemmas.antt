@@ -12,7 +12,7 @@ use Rattle.icu_collator.specs.declared.key_bytes.run_level.RunLevel.TheVariants.
 use Rattle.icu_collator.specs.Levels.{case_at, levels_of, primary_at, quaternary_at, secondaries_of, tertiary_at}
 use Rattle.icu_collator.specs.Shifted.{Counted, counted}
 
--- one more piece behind pieces
+-- one more piece after pieces
 behind : (start xs ys between after : List ℕ) → between ≡ start ++ xs → after ≡ between ++ ys → after ≡ start ++ (xs ++ ys)
 behind start xs ys between after written written_too = written_too ∙ ap (λ l. l ++ ys) written ∙ append_assoc start xs ys
 

@@ -21,7 +21,7 @@ same_runs code bytes b zero = refl
 same_runs code bytes b (suc n) = refl
 
 module _ {W : Type 0} (code : RunCode W) (bytes : ℕ → List ℕ) (IsOne : W → Type 0) (same : (w : W) → IsOne w → bytes (code.rank w) ≡ code.bytes w) where
-  -- weights behind common ones, by their ranks
+  -- weights after common ones, by their ranks
   pub ranked_behind : (n : ℕ) (ws : List W) → AllByRecursion IsOne ws → behind_run (by_rank code bytes) n (map code.rank ws) ≡ behind_run code n ws
   unfolding behind_run
   ranked_behind n [] ones = same_runs code bytes false n

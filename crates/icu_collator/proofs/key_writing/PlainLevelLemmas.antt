@@ -19,7 +19,7 @@ use Rattle.icu_collator.specs.Shifted.{Counted, whole, variable}
 use Rattle.icu_collator.proofs.key_writing.GivenLevelLemmas.{adds_no_primary}
 use Rattle.icu_collator.proofs.key_writing.PrimaryRunLemmas.{adds_in_run, adds_plain}
 
--- an element without a primary gives none, and one with a primary behind all variable ones gives it
+-- an element without a primary gives none, and one with a primary after all variable ones gives it
 gives_none : (collation : Collation) (end bits : ℕ) → bits / 2 ^ 32 ≡ 0 → primary_at collation (counted_by end bits) ≡ None
 unfolding counted_by
 gives_none collation end bits none =
@@ -35,7 +35,7 @@ gives_primary collation end bits some counts =
     let one : (bits / 2 ^ 32 == 0) ≡ false = grind (arith, nat_tests) in
     rw (test, one) refl
 
--- where each primary adds its bytes behind so many, and leaves the run as it is
+-- where each primary adds its bytes after so many, and leaves the run as it is
 module _ (source : CollationSource) (lead end : ℕ) (run : Option ℕ) (left_out : ℕ) (is_run : IsRun (was_compressible (source_collation source)) run)
     (adds : (p : ℕ) (before : List ℕ) → IsPlain lead end p
     → AddsPrimary (was_compressible (source_collation source)) (Some ((source_collation source).reordered p)) run before run (before ++ drop left_out (primary_bytes p)))
@@ -94,8 +94,8 @@ module _ (source : CollationSource) (lead end : ℕ) (run : Option ℕ) (left_ou
         → after ≡ before ++ flat_map (own_bytes left_out) (between from behind items)
         → IsWrittenUpTo (source_collation source) end items run from before behind after
     written_up_to items from behind before after onward all put =
-        let place : from + (behind - from) ≡ behind = omega (arith, onward) in
-        let rest : drop (behind - from) (drop from items) ≡ drop behind items = drop-drop (behind - from) from items ∙ ap (λ n. drop n items) place in
+        let index : from + (behind - from) ≡ behind = omega (arith, onward) in
+        let rest : drop (behind - from) (drop from items) ≡ drop behind items = drop-drop (behind - from) from items ∙ ap (λ n. drop n items) index in
         let joined : between from behind items ++ drop behind items ≡ drop from items =
         ap (λ l. between from behind items ++ l) (sym rest) ∙ take-append-drop (behind - from) (drop from items) in
         record {
@@ -105,7 +105,7 @@ module _ (source : CollationSource) (lead end : ℕ) (run : Option ℕ) (left_ou
         }
 
 module _ (source : CollationSource) (lead end : ℕ) (accepted : IsAccepted (meaning source.canonical) source.tables) where
-  -- behind no run
+  -- after no run
   pub plain_up_to :
       (lead < 256 → IsWrittenWhole source lead)
       → (items : List ℕ) (from behind : ℕ) (before after : List ℕ) → from ≤ behind → All (GivesPlain lead end) (between from behind items)

@@ -1,4 +1,4 @@
--- Elements with plain primaries, one behind another: their bytes, and how a buffer takes them.
+-- Elements with plain primaries, one after another: their bytes, and how a buffer takes them.
 use Rattle.std.proofs.Common.{◌≡◌, ◌≢◌, ℕ, zero, suc, ◌<◌, ◌≤◌, ◌+◌, ◌-◌, ◌/◌, ◌^◌, Bool, true, false, List, [], ◌∷◌, ◌++◌, length, drop, take, get_or, set, refl, sym, ◌∙◌, ap, subst, append_assoc, arith}
 use Rattle.std.specs.Prelude.{◌==◌, cond, flat_map, All}
 use Rattle.std.proofs.lemmas.Bool.Decides.{nat_tests}
@@ -9,34 +9,34 @@ use Rattle.icu_collator_core.specs.WeightRules.{primary_bytes, primary_rest}
 use Rattle.icu_collator.specs.PlainPrimaries.{between, own_bytes}
 
 -- one more element
-module _ (xs : List ℕ) (from place x : ℕ) (onward : from ≤ place) (inside : place < length xs) (is : x ≡ get_or xs place x) where
-  inside_rest : place - from < length (drop from xs)
+module _ (xs : List ℕ) (from index x : ℕ) (onward : from ≤ index) (inside : index < length xs) (is : x ≡ get_or xs index x) where
+  inside_rest : index - from < length (drop from xs)
   inside_rest = let n = length-drop from xs in omega (arith, n, onward, inside)
 
-  last_is : get_or (drop from xs) (place - from) x ≡ x
+  last_is : get_or (drop from xs) (index - from) x ≡ x
   last_is =
-      let there : from + (place - from) ≡ place = omega (arith, onward) in
-      get_or-drop from xs (place - from) x ∙ ap (λ n. get_or xs n x) there ∙ sym is
+      let there : from + (index - from) ≡ index = omega (arith, onward) in
+      get_or-drop from xs (index - from) x ∙ ap (λ n. get_or xs n x) there ∙ sym is
 
-  count_is : place - from + 1 ≡ place + 1 - from
+  count_is : index - from + 1 ≡ index + 1 - from
   count_is = omega (arith, onward)
 
-  pub between_more : between from (place + 1) xs ≡ between from place xs ++ x ∷ []
+  pub between_more : between from (index + 1) xs ≡ between from index xs ++ x ∷ []
   between_more =
       ap (λ n. take n (drop from xs)) (sym count_is)
-      ∙ take_more (drop from xs) (place - from) x inside_rest
-      ∙ ap (λ y. between from place xs ++ y ∷ []) last_is
+      ∙ take_more (drop from xs) (index - from) x inside_rest
+      ∙ ap (λ y. between from index xs ++ y ∷ []) last_is
 
-  pub all_more : (P : ℕ → Type 0) → All P (between from place xs) → P x → All P (between from (place + 1) xs)
+  pub all_more : (P : ℕ → Type 0) → All P (between from index xs) → P x → All P (between from (index + 1) xs)
   all_more P all one =
       subst (λ n. All P (take n (drop from xs))) count_is
-      (All-more P (drop from xs) (place - from) x inside_rest all (subst P (sym last_is) one))
+      (All-more P (drop from xs) (index - from) x inside_rest all (subst P (sym last_is) one))
 
   pub bytes_more :
-      (bytes : ℕ → List ℕ) (start before after : List ℕ) → before ≡ start ++ flat_map bytes (between from place xs) → after ≡ before ++ bytes x
-      → after ≡ start ++ flat_map bytes (between from (place + 1) xs)
+      (bytes : ℕ → List ℕ) (start before after : List ℕ) → before ≡ start ++ flat_map bytes (between from index xs) → after ≡ before ++ bytes x
+      → after ≡ start ++ flat_map bytes (between from (index + 1) xs)
   bytes_more bytes start before after so_far more =
-      more ∙ ap (λ l. l ++ bytes x) so_far ∙ flat_map_more bytes start (between from place xs) x
+      more ∙ ap (λ l. l ++ bytes x) so_far ∙ flat_map_more bytes start (between from index xs) x
       ∙ ap (λ l. start ++ flat_map bytes l) (sym between_more)
 
 -- none yet
@@ -56,7 +56,7 @@ two_bytes left_out bits lead second some led rest =
     ap (λ (b : Bool). cond b [] (drop left_out (primary_bytes (bits / 2 ^ 32)))) test
     ∙ ap (λ l. drop left_out (bits / 2 ^ 32 / 2 ^ 24 ∷ l)) rest ∙ ap (λ n. drop left_out (n ∷ second ∷ [])) (sym led)
 
--- two bytes behind what a buffer holds, and one in the place of the first
+-- two bytes after what a buffer holds, and one in the place of the first
 two_put : (array : List ℕ) (n last end a b : ℕ) → n + 1 < length array → last ≡ n + 1 → end ≡ last + 1
     → take end (set (set array n a) last b) ≡ take n array ++ a ∷ b ∷ []
 two_put array n last end a b room there behind =

@@ -44,7 +44,7 @@ module _ (canonical : Canonical) (tables : CollationTables) (accepted : IsAccept
         → None ≡ primary_run starts_run run in_place
     run_ended run is_none = sym (ap (λ (b : Bool). cond b (Some (in_place / 2 ^ 24)) None) (was_asked ∙ is_none))
 
--- a primary with a lead that is written whole is written behind no run, and begins none
+-- a primary with a lead that is written whole is written after no run, and begins none
 pub adds_plain :
     (source : CollationSource) (p plain : ℕ) (before after : List ℕ) → IsAccepted (meaning source.canonical) source.tables
     → plain ≡ p / 2 ^ 24 → plain < 256 → IsWrittenWhole source plain → after ≡ before ++ primary_bytes p

@@ -19,7 +19,7 @@ adds_common code rank pending now bytes same is =
       count = omega (arith, is);
     }
 
--- a lower or a higher one is written behind the run before it
+-- a lower or a higher one is written after the run before it
 pub adds_lower :
     (code : RunCode ℕ) (rank pending : ℕ) (before between after : List ℕ) → code.rank rank < code.common
     → between ≡ before ++ run_bytes code false pending → after ≡ between ++ code.bytes rank → AddsWeight code rank pending before 0 after
@@ -80,7 +80,7 @@ rank_is LowerFirst rank = refl
 rank_is UpperFirst rank = refl
 rank_is Quaternaries rank = refl
 
--- a weight that isn't common is written behind the run before it
+-- a weight that isn't common is written after the run before it
 pub adds_other :
     (code : RunCode ℕ) (rank common pending : ℕ) (before between after : List ℕ) → code.rank rank ≡ rank → common ≡ code.common → rank ≢ common
     → between ≡ before ++ run_bytes code (ltb common rank) pending → after ≡ between ++ code.bytes rank → AddsWeight code rank pending before 0 after

@@ -77,7 +77,7 @@ module _ (collation : Collation) where
       in list_any_at (moves p) (range_with_len 0 (2 ^ 8)) lead 0 (let long = length-range_with_len 0 (2 ^ 8) in omega (arith, long, byte))
       (ap (moves p) (get_or-range_with_len 0 (2 ^ 8) lead 0 byte ∙ same) ∙ and_from _ _ compressible (eq-eqb _ _ moved))
 
-  -- reordering keeps what stands behind a lead, and gives one lead only to leads that are alike compressible
+  -- reordering keeps what stands after a lead, and gives one lead only to leads that are alike compressible
   pub record KeepsAlike : Type 0 where
     pub rest : (p : ℕ) → collation.reordered p % 2 ^ 24 ≡ p % 2 ^ 24
     pub alike : (p q : ℕ) → p < 2 ^ 32 → q < 2 ^ 32 → collation.reordered p / 2 ^ 24 ≡ collation.reordered q / 2 ^ 24

@@ -62,7 +62,7 @@ texts_read collation options firsts others a b left right =
     elements_read collation options (elements_of_text collation options firsts) (elements_of_text collation options others)
     (decomposed collation.canonical firsts) (decomposed collation.canonical others) a b left.elements right.elements left.characters right.characters
 
--- two texts with equal primaries compare by the levels behind these
+-- two texts with equal primaries compare by the levels after these
 pub equal_primaries : (collation : Collation) (options : ResolvedCollatorOptions) (a b : ReadText) → primaries_by collation (counted_in a) ≡ primaries_by collation (counted_in b)
     → read_order collation options a b ≡ order_from_secondaries collation options a b
 unfolding read_order

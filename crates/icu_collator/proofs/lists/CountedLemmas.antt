@@ -48,7 +48,7 @@ module _ (collation : Collation) (options : ResolvedCollatorOptions) (end : ℕ)
   unfolding counted_behind
   first_ignored behind e es test ignored = rw (variable_by e ∙ test, ignored) refl
 
--- what is left from a place on
+-- what is left from an index on
 left_from : (xs : List ℕ) (i x : ℕ) → i < length xs → x ≡ get_or xs i x → unpacked (drop i xs) ≡ element_of x ∷ unpacked (drop (i + 1) xs)
 left_from xs i x within is =
     ap (λ ys. unpacked ys) (drop_more xs i x within) ∙ ap (λ y. element_of y ∷ unpacked (drop (i + 1) xs)) (sym is)

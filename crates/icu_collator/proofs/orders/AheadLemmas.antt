@@ -7,7 +7,8 @@ use Rattle.std.proofs.lemmas.List.Elements.{filter_map-append, recursion_from_Al
 use lib.Utf8.{scalar, scalars}
 use Rattle.icu_normalizer_core.specs.Canonical.{IsDecomposing, decomposed, marks_in_order}
 use Rattle.icu_normalizer_core.specs.Iter.{Spells}
-use Rattle.icu_normalizer_core.proofs.decomposed_lists.DecomposedLemmas.{AreScalar, decomposed_all_scalars, order_before}
+use Rattle.icu_normalizer_core.proofs.decomposed_lists.DecomposedLemmas.{order_before}
+use Rattle.icu_normalizer_core.proofs.decomposed_lists.ScalarLemmas.{decomposed_characters, scalars_parts}
 use Rattle.icu_normalizer_core.proofs.decomposed_lists.IterLemmas.{Spells-end, Spells-next}
 use Rattle.icu_collator_types.specs.declared.elements.Element.{Element}
 use Rattle.icu_collator_core.specs.Acceptance.{CollationSource}
@@ -71,7 +72,7 @@ module _ (source : CollationSource) (numeric : Option ℕ) where
         → ReadTo other next last items
     left_otherwise held other chars next last items h left = record { list = h.list; rest = h.rest; text_is = h.text_is; left = left; read = h.read }
 
-    -- a character is read behind
+    -- a character is read after
     pub read_more : (chars : I) (c last : ℕ) (items new : List ℕ) (next : NextPrimaries) → ReadTo (Some c) chars last items
         → IsPushedWith source numeric c last items next new → ReadTo None chars next.class new
     read_more chars c last items new next h pushed =
@@ -124,18 +125,8 @@ module _ (source : CollationSource) (numeric : Option ℕ) where
         record { items = items; more = []; elements = sym (read_out held chars last items h none) ∙ sym (append-nil (unpacked items)); primaries = refl }
 
     module _ (decomposing : IsDecomposing (canonical_by source)) (ok : All IsScalar text) where
-      behind_scalars : (xs ys : List ℕ) → scalars (xs ++ ys) ≡ true → scalars ys ≡ true
-      behind_scalars [] ys h = h
-      behind_scalars (x ∷ xs) ys h = behind_scalars xs ys (and_parts (scalar x) (scalars (xs ++ ys)) h).1
-
       whole_scalars : scalars (decomposed (canonical_by source) text) ≡ true
-      whole_scalars =
-          all_are (decomposed (canonical_by source) text)
-          (recursion_from_All IsScalar (decomposed (canonical_by source) text) (decomposed_all_scalars (canonical_by source) text decomposing ok))
-        where
-          all_are : (cs : List ℕ) → AreScalar cs → scalars cs ≡ true
-          all_are [] h = refl
-          all_are (c ∷ cs) h = and_from (scalar c) (scalars cs) h.0 (all_are cs h.1)
+      whole_scalars = decomposed_characters (canonical_by source) text decomposing ok
 
       anything : (l : List ℕ) → MayStandBehind source numeric 0 l
       anything [] = tt
@@ -148,7 +139,7 @@ module _ (source : CollationSource) (numeric : Option ℕ) where
           let left = marks_in_order class (flat_map full h.rest) in
           let list_is : decomposed (canonical_by source) text ≡ h.list ++ left =
           ap (marks_in_order class) h.text_is ∙ order_closed class 0 h.list (flat_map full h.rest) h.read.order (h.read.last (omega arith)) in
-          let fine : scalars left ≡ true = behind_scalars h.list left (ap scalars (sym list_is) ∙ whole_scalars) in
+          let fine : scalars left ≡ true = (scalars_parts h.list left (ap scalars (sym list_is) ∙ whole_scalars)).1 in
           record {
             items = items;
             more = elements_behind source numeric (after [] h.list) left;
@@ -169,7 +160,7 @@ module _ (source : CollationSource) (numeric : Option ℕ) where
           let list_is : decomposed (canonical_by source) text ≡ h.list ++ starts.first ∷ left =
           ap (marks_in_order class) whole ∙ order_before class starts.first h.list behind starts.starter
           ∙ ap (λ (l : List ℕ). l ++ starts.first ∷ left) (order_stands class 0 h.list h.read.order) in
-          let fine : scalars (starts.first ∷ left) ≡ true = behind_scalars h.list (starts.first ∷ left) (ap scalars (sym list_is) ∙ whole_scalars) in
+          let fine : scalars (starts.first ∷ left) ≡ true = (scalars_parts h.list (starts.first ∷ left) (ap scalars (sym list_is) ∙ whole_scalars)).1 in
           record {
             items = items;
             more = elements_behind source numeric (after [] h.list) (starts.first ∷ left);
@@ -217,7 +208,7 @@ counted_on end items new next e =
     ∙ ap (λ (ps : List ℕ). counting end (primaries_in items) ++ ps) (three_counting end next)
     ∙ ap (λ (ps : List ℕ). ps ++ counted_three end next) (sym (counted_among end items))
 
--- those behind the first
+-- those after the first
 three_popped : (end : ℕ) (read : NextPrimaries) → counted_three end read ≡ counted_if end read.first ++ counted_three end (without_first read)
 three_popped end read =
     ap (λ (ps : List ℕ). counted_if end read.first ++ (counted_if end read.second ++ ps)) (sym (append-nil (counted_if end read.third)))

@@ -1,4 +1,4 @@
--- How texts compare by the elements that stand behind a front that they have in common.
+-- How texts compare by the elements that stand after a front that they have in common.
 use Rattle.std.proofs.Common.{◌≡◌, ℕ, false, List, [], ◌++◌, refl, sym, ap, ◌∙◌}
 use Rattle.icu_normalizer_core.specs.Canonical.{decomposed, marks_in_order}
 use Rattle.icu_collator_types.specs.declared.elements.Element.{Element}
@@ -26,7 +26,7 @@ module _ (collation : Collation) (options : ResolvedCollatorOptions) (inexact : 
   elements_decide a b es fs e f =
       sym (rw (e, f) (below_identical es fs (decomposed collation.canonical a) (decomposed collation.canonical b)))
 
-  -- texts with these behind nothing
+  -- texts with these after nothing
   nothing_before : (text : List ℕ) (items : List ℕ) → AreElementsBehind collation options [] text items → elements_of_text collation options text ≡ unpacked items
   unfolding decomposed marks_in_order elements_within placed_behind
   nothing_before text items e = e
@@ -37,7 +37,7 @@ module _ (collation : Collation) (options : ResolvedCollatorOptions) (inexact : 
       elements_decide a b (unpacked lefts) (unpacked rights)
       (nothing_before a lefts (rw none at left)) (nothing_before b rights (rw none at right))
 
-  -- texts with these behind a front, where they count apart from it
+  -- texts with these after a front, where they count apart from it
   pub order_behind : (front a b lefts rights : List ℕ) → collation.backward ≡ false
       → CountApart collation options (unpacked lefts) → CountApart collation options (unpacked rights)
       → AreElementsBehind collation options front a lefts → AreElementsBehind collation options front b rights

@@ -189,7 +189,7 @@ module _ (source : CollationSource) (options : ResolvedCollatorOptions) (end : �
         ∙ whole_one (counted_behind collation options false es) some
         ∙ sym (ap (λ (ps : List ℕ). Reordered ps ++ primaries_of false es) (one_counted end bits (rw (some, fixed) refl)))
 
-    -- that of an element, behind others, and of more behind it
+    -- that of an element, after others, and of more after it
     one_split : (behind : Bool) → (then : Bool) × (primaries_of behind (element_of bits ∷ es) ≡ Reordered (counted_primaries end (bits ∷ [])) ++ primaries_of then es)
     one_split behind =
         elim (cases_Bool (ltb 0x02000000 e.primary && ltb e.primary end)) [
@@ -201,7 +201,7 @@ module _ (source : CollationSource) (options : ResolvedCollatorOptions) (end : �
               ]
         ]
 
-  -- those of elements, behind others, and of more behind them
+  -- those of elements, after others, and of more after them
   pub primaries_split : (behind : Bool) (items : List ℕ) (more : List Element)
       → (then : Bool) × (primaries_of behind (unpacked items ++ more) ≡ Reordered (counted_primaries end items) ++ primaries_of then more)
   primaries_split behind [] more = (behind, refl)
@@ -218,7 +218,7 @@ module _ (source : CollationSource) (options : ResolvedCollatorOptions) (end : �
             (sym (map-append (reordered_by source) here rest) ∙ ap Reordered (sym (filter_map-append (counted_primary end) (bits ∷ []) items))),
       )
 
-  -- those of elements behind others
+  -- those of elements after others
   pub behind_those : (es fs : List Element) → primaries_of false (es ++ fs) ≡ primaries_of false es ++ primaries_of (behind_after collation options false es) fs
   behind_those es fs =
       ap Given (counted_append collation options false es fs)

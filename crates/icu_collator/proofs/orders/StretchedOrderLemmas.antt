@@ -70,7 +70,7 @@ module _ (source : CollationSource) (options : ResolvedCollatorOptions) (end : �
     abbrev before_all : List ℕ
     before_all = primaries_from false (elements front)
 
-    -- those of a text behind the front whose elements there begin with these
+    -- those of a text after the front whose elements there begin with these
     front_primaries : (text items : List ℕ) → BeginsWithElements source numeric front text items
         → (rest : List ℕ) × ((levels_of_text collation options (front ++ text)).primaries ≡ before_all ++ (Reordered (counted_primaries end items) ++ rest))
     unfolding levels_of
@@ -234,14 +234,14 @@ module _ (source : CollationSource) (options : ResolvedCollatorOptions) (end : �
 
 module _ (source : CollationSource) (options : ResolvedCollatorOptions) {I J : Type 0} (left_steps : I → Option ℕ → I → Type 0) (right_steps : J → Option ℕ → J → Type 0)
     (left : I) (right : J) (s t : StretchedElements) where
-  -- what they say that are left to these iterators, behind any front
+  -- what they say that are left to these iterators, after any front
   abbrev pub Runs : Meeting → Type 0
   Runs meeting =
       (front a b : List ℕ) → All IsScalar (front ++ a) → All IsScalar (front ++ b)
       → EndsApart source (numeric_by source options) front a → EndsApart source (numeric_by source options) front b
       → Spells left_steps left a → Spells right_steps right b → IsRun source options front a b s t meeting
 
-  module _ (a b : List ℕ) (place : ℕ) (ok : All IsScalar a) (also : All IsScalar b) (h : BeginAt source left_steps right_steps a b place left right) where
+  module _ (a b : List ℕ) (index : ℕ) (ok : All IsScalar a) (also : All IsScalar b) (h : BeginAt source left_steps right_steps a b index left right) where
     from_there : (meeting : Meeting) → Runs meeting → IsRun source options h.front h.left_rest h.right_rest s t meeting
     from_there meeting runs =
         runs h.front h.left_rest h.right_rest (subst (λ (l : List ℕ). All IsScalar l) h.left_is ok) (subst (λ (l : List ℕ). All IsScalar l) h.right_is also)

@@ -14,7 +14,7 @@ use Rattle.icu_collator_core.proofs.weights.ReorderedHalfLemmas.{led_lead, rest_
 use Rattle.icu_collator_core.specs.WholeLeads.{lead_in_place}
 use Rattle.icu_collator.specs.LeadMoves.{IsOfWholeLeads}
 
--- what a table has at a place
+-- what a table has at an index
 byte_at : (bytes : List ℕ) (k byte : ℕ) → All (λ byte. byte < 2 ^ 8) bytes → slice_get bytes k ≡ Some byte → byte < 2 ^ 8
 byte_at bytes k byte all h =
     All-contains (λ byte. byte < 2 ^ 8) bytes byte all (k, slice_get_within bytes k byte h, get_or_from_slice_get bytes k byte byte h)

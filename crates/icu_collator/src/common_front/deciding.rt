@@ -115,7 +115,7 @@ fn order_behind_plain(
     }
 }
 
-/// How two texts compare, by what stands next in each behind what they have in common; `None` where that doesn't decide.
+/// How two texts compare, by what stands next in each after what they have in common; `None` where that doesn't decide.
 pub(crate) fn order_of_next(
     checked: &CheckedTables<'_>,
     variable_end: u32,

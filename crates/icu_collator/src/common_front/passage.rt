@@ -1,11 +1,11 @@
-//! The characters from which two texts may be read, and the place where reading begins.
+//! The characters from which two texts may be read, and the index where reading begins.
 
 ghost use Rattle.std.specs.Prelude.{◌≡◌, false, true};
 ghost use Rattle.icu_collator_types.specs.Options.{is_numeric, is_shifted};
 ghost use Rattle.icu_collator.specs.Boundaries.{GoesOn};
 ghost use Rattle.icu_collator.specs.Collators.{source_collation};
 ghost use Rattle.icu_collator.specs.Fronts.{IsPlaceToBegin};
-ghost use Rattle.icu_collator.specs.ReadingPlaces.{IsOpenPassage, IsReadingPlace};
+ghost use Rattle.icu_collator.specs.ReadingStarts.{IsOpenPassage, IsReadingStart};
 
 use super::next::{first_of_full, is_safe};
 use super::places::{PassageKind, PassageTest, place_to_begin};
@@ -32,7 +32,7 @@ struct OwnPassages<'d> {
 impl PassageTest for OwnPassages<'_> {
     ghost use Rattle.icu_collator.specs.Boundaries.{GoesOn};
     ghost use Rattle.icu_collator.specs.Collators.{source_collation};
-    ghost use Rattle.icu_collator.specs.ReadingPlaces.{IsOpenPassage};
+    ghost use Rattle.icu_collator.specs.ReadingStarts.{IsOpenPassage};
 
     ghost passes = { λ test c. IsOpenPassage (source_collation test.checked.now) c };
 
@@ -57,7 +57,7 @@ struct Passages<'d> {
 impl PassageTest for Passages<'_> {
     ghost use Rattle.icu_collator.specs.Boundaries.{GoesOn};
     ghost use Rattle.icu_collator.specs.Collators.{source_collation};
-    ghost use Rattle.icu_collator.specs.ReadingPlaces.{IsOpenPassage};
+    ghost use Rattle.icu_collator.specs.ReadingStarts.{IsOpenPassage};
 
     ghost passes = { λ test c. IsOpenPassage (source_collation test.checked.now) c };
 
@@ -147,9 +147,9 @@ fn may_skip(checked: &CheckedTables<'_>, options: &ResolvedCollatorOptions) -> b
     is_unnumbered(options.numeric)
 }
 
-/// The last place within the first `common` characters from which on three stand one after another that decomposing leaves
+/// The last index within the first `common` characters from which on three stand one after another that decomposing leaves
 /// alone, and from which texts may be read; 0 where there is none among the last `searched` of these.
-fn own_place<T: Characters>(
+fn own_index<T: Characters>(
     checked: &CheckedTables<'_>,
     text: T,
     common: usize,
@@ -161,9 +161,9 @@ fn own_place<T: Characters>(
     place_to_begin(text.chars(), common, searched, &passages)
 }
 
-/// The last place within the first `common` characters from which on three stand from which texts may be read, with none
+/// The last index within the first `common` characters from which on three stand from which texts may be read, with none
 /// between them that has a prefix; 0 where there is none among the last `searched` of these.
-fn place_among<T: Characters>(
+fn index_among<T: Characters>(
     checked: &CheckedTables<'_>,
     text: T,
     common: usize,
@@ -176,35 +176,35 @@ fn place_among<T: Characters>(
 }
 
 /// The same, where at first a few characters are looked at, and by one read each; then all, by their full lists: what two
-/// texts have in common takes memory only from the last such place on.
-fn place_near_or_far<T: Characters>(checked: &CheckedTables<'_>, text: T, common: usize) -> usize
+/// texts have in common takes memory only from the last such index on.
+fn index_near_or_far<T: Characters>(checked: &CheckedTables<'_>, text: T, common: usize) -> usize
     ensures { IsPlaceToBegin (IsOpenPassage (source_collation checked.now)) (GoesOn (source_collation checked.now).canonical (source_collation checked.now).weights) (T.characters text) common result }
 {
-    let near = own_place(checked, text, common, SEARCHED);
+    let near = own_index(checked, text, common, SEARCHED);
     if near != 0 || common <= SEARCHED {
         return near;
     }
-    let searched = place_among(checked, text, common, SEARCHED_BY_LISTS);
+    let searched = index_among(checked, text, common, SEARCHED_BY_LISTS);
     if searched != 0 || common <= SEARCHED_BY_LISTS {
         return searched;
     }
-    place_among(checked, text, common, common)
+    index_among(checked, text, common, common)
 }
 
-/// The place from which texts have to be read that begin with the same `common` characters as this text: 0 where the
+/// The index from which texts have to be read that begin with the same `common` characters as this text: 0 where the
 /// secondaries are read backward, where a dot above may be dropped, where elements are shifted, and where numbers are
 /// sought. No memory is taken.
-pub(crate) fn reading_place<T: Characters>(
+pub(crate) fn reading_start<T: Characters>(
     checked: &CheckedTables<'_>,
     options: &ResolvedCollatorOptions,
     text: T,
     common: usize,
 ) -> usize
-    ensures { IsReadingPlace (source_collation checked.now) options.now (T.characters text) common result }
+    ensures { IsReadingStart (source_collation checked.now) options.now (T.characters text) common result }
 {
     checked.canonical().keep_promise();
     if !may_skip(checked, options) {
         return 0;
     }
-    place_near_or_far(checked, text, common)
+    index_near_or_far(checked, text, common)
 }

@@ -1,4 +1,4 @@
-//! The search for a place from which texts may be read, by a test of characters.
+//! The search for an index from which texts may be read, by a test of characters.
 
 ghost use Rattle.std.specs.Prelude.{◌≡◌, ℕ, List};
 ghost use Rattle.std.specs.Iterator.{IsFinite};
@@ -6,7 +6,7 @@ ghost use Rattle.icu_normalizer_core.specs.Iter.{Spells};
 ghost use Rattle.icu_collator.specs.Fronts.{IsPlaceToBegin};
 ghost use Rattle.icu_collator.specs.declared.common_front.places.PassageKind.TheVariants.{GoesOn, Open};
 
-/// What a character is to a search for a place from which texts may be read.
+/// What a character is to a search for an index from which texts may be read.
 #[derive(Clone, Copy, Debug, PartialEq, Eq)]
 pub(crate) enum PassageKind {
     /// Texts may be read from it, where two more such follow.
@@ -34,7 +34,7 @@ pub(crate) trait PassageTest {
         ensures goes_on { result ≡ GoesOn → goes_on self.now c };
 }
 
-/// What a character is, and closed before the first place that is looked at.
+/// What a character is, and closed before the first index that is looked at.
 fn passage_at<T: PassageTest>(test: &T, c: char, read: usize, from: usize) -> PassageKind
     ensures open { result ≡ Open → T.passes test.now c }
     ensures goes_on { result ≡ GoesOn → T.goes_on test.now c }
@@ -45,7 +45,7 @@ fn passage_at<T: PassageTest>(test: &T, c: char, read: usize, from: usize) -> Pa
     test.passage(c)
 }
 
-/// The last place within the first `common` characters from which on three open characters stand, and between them none
+/// The last index within the first `common` characters from which on three open characters stand, and between them none
 /// that is closed; 0 where there is none among the last `searched` of these. No memory is taken.
 pub(crate) fn place_to_begin<I: Iterator<Item = char> + Drop, T: PassageTest>(
     chars: I,
@@ -58,7 +58,7 @@ pub(crate) fn place_to_begin<I: Iterator<Item = char> + Drop, T: PassageTest>(
     ensures { (text : List ℕ) → Spells I.next_gives chars text → IsPlaceToBegin (T.passes test.now) (T.goes_on test.now) text common result }
 {
     let from = common.saturating_sub(searched);
-    let mut place = 0usize;
+    let mut index = 0usize;
     let mut read = 0usize;
     let mut earlier = None;
     let mut latest = None;
@@ -68,7 +68,7 @@ pub(crate) fn place_to_begin<I: Iterator<Item = char> + Drop, T: PassageTest>(
         }
         match passage_at(test, c, read, from) {
             PassageKind::Open => {
-                place = earlier.unwrap_or(place);
+                index = earlier.unwrap_or(index);
                 earlier = latest;
                 latest = Some(read);
             }
@@ -80,5 +80,5 @@ pub(crate) fn place_to_begin<I: Iterator<Item = char> + Drop, T: PassageTest>(
         }
         read += 1;
     }
-    place
+    index
 }

@@ -23,7 +23,7 @@ const MOST: usize = 256;
 /// A text that is read with a look at the next character.
 #[derive(Drop)]
 struct Ahead<I> {
-    /// The text behind what was read, and behind the character that is held.
+    /// The text after what was read, and after the character that is held.
     chars: I,
     /// The next character, where it was taken.
     held: Option<char>,
@@ -80,7 +80,7 @@ fn take_next<I: PeekLow + Drop>(held: Option<char>, chars: I) -> (Option<char>, 
     }
 }
 
-/// Reads a character behind one of a class, together with the next of the text where both are noted as a pair; `None` where it isn't
+/// Reads a character after one of a class, together with the next of the text where both are noted as a pair; `None` where it isn't
 /// read flat there.
 #[inline(always)]
 fn read_ahead<I: PeekLow + Drop>(

@@ -32,7 +32,7 @@ fn order_of_primaries(checked: &CheckedTables<'_>, first: u32, second: u32) -> O
     reordered(checked.tables(), first).cmp(&reordered(checked.tables(), second))
 }
 
-/// Reads the next character of two texts, behind one of a class in both, if it is the same in both, as far as looks tell, and read
+/// Reads the next character of two texts, after one of a class in both, if it is the same in both, as far as looks tell, and read
 /// flat there: answers what is left of both, and the class of the last character. No memory is taken.
 #[inline(always)]
 fn pass_same<I: PeekLow + Drop, J: PeekLow + Drop>(
@@ -65,7 +65,7 @@ fn pass_same<I: PeekLow + Drop, J: PeekLow + Drop>(
     Some((left, right, trail))
 }
 
-/// Reads two texts, behind a character of a class in both, side by side as long as looks tell that their next characters are the
+/// Reads two texts, after a character of a class in both, side by side as long as looks tell that their next characters are the
 /// same boundary below U+0080; answers what is left of both, and the class of the last character. No memory is taken.
 #[inline(always)]
 pub(super) fn pass_low<I: PeekLow + Drop, J: PeekLow + Drop>(
@@ -103,7 +103,7 @@ pub(super) fn pass_low<I: PeekLow + Drop, J: PeekLow + Drop>(
     }
 }
 
-/// Reads two texts, each behind a character of a class, side by side as long as their next characters are the same, behind the same
+/// Reads two texts, each after a character of a class, side by side as long as their next characters are the same, after the same
 /// class, and read flat. No memory is taken.
 #[inline(always)]
 pub(super) fn pass_common<I: PeekLow + Drop, J: PeekLow + Drop>(

@@ -5,14 +5,14 @@ ghost use Rattle.std.specs.Char.{IsScalar};
 ghost use Rattle.icu_collator.specs.Collators.{source_collation};
 ghost use Rattle.icu_collator.specs.Fronts.{PartAt};
 ghost use Rattle.icu_collator.specs.Order.{collation_order};
-ghost use Rattle.icu_collator.specs.ReadingPlaces.{IsCommonPlace};
+ghost use Rattle.icu_collator.specs.ReadingStarts.{IsCommonStart};
 
 use super::flat_texts::{compare_ahead, compare_flat};
 use super::fronts::difference_and_boundary;
 use super::iterators::compare_characters;
 use super::stretched::compare_stretched;
 use crate::common_front::{
-    FirstDifference, behind, first_difference, order_by_difference, reading_place,
+    FirstDifference, behind, first_difference, order_by_difference, reading_start,
 };
 use crate::encodings::{Characters, PeekLow};
 use icu_collator_core::checked::CheckedTables;
@@ -20,50 +20,51 @@ use icu_collator_types::options::ResolvedCollatorOptions;
 use std::alloc::{AllocError, Global};
 use std::cmp::Ordering;
 
-/// The order of what stands in two texts behind so many characters, by all levels of both. Fails only when out of memory.
+/// The order of what stands in two texts after so many characters, by all levels of both. Fails only if memory is
+/// refused.
 fn compare_whole_behind<T: Characters, U: Characters>(
     alloc: Global,
     checked: &CheckedTables<'_>,
     options: &ResolvedCollatorOptions,
     left: T,
     right: U,
-    place: usize,
+    index: usize,
 ) -> Result<Ordering, AllocError>
-    requires left_reaches { place ≤ length (T.characters left) }
-    requires right_reaches { place ≤ length (U.characters right) }
-    ensures { IfOk result (λ order. order ≡ collation_order (source_collation checked.now) options.now (drop place (T.characters left)) (drop place (U.characters right))) }
+    requires left_reaches { index ≤ length (T.characters left) }
+    requires right_reaches { index ≤ length (U.characters right) }
+    ensures { IfOk result (λ order. order ≡ collation_order (source_collation checked.now) options.now (drop index (T.characters left)) (drop index (U.characters right))) }
 {
-    let lefts = behind(left.chars(), place);
-    let rights = behind(right.chars(), place);
+    let lefts = behind(left.chars(), index);
+    let rights = behind(right.chars(), index);
     let order = compare_characters(alloc, checked, options, lefts, rights)?;
     Ok(order)
 }
 
-/// The order of what stands in two texts behind so many characters. Fails only when out of memory.
+/// The order of what stands in two texts after so many characters. Fails only if memory is refused.
 fn compare_behind<T: Characters, U: Characters>(
     alloc: Global,
     checked: &CheckedTables<'_>,
     options: &ResolvedCollatorOptions,
     left: T,
     right: U,
-    place: usize,
+    index: usize,
 ) -> Result<Ordering, AllocError>
-    requires left_reaches { place ≤ length (T.characters left) }
-    requires right_reaches { place ≤ length (U.characters right) }
-    ensures { IfOk result (λ order. order ≡ collation_order (source_collation checked.now) options.now (drop place (T.characters left)) (drop place (U.characters right))) }
+    requires left_reaches { index ≤ length (T.characters left) }
+    requires right_reaches { index ≤ length (U.characters right) }
+    ensures { IfOk result (λ order. order ≡ collation_order (source_collation checked.now) options.now (drop index (T.characters left)) (drop index (U.characters right))) }
 {
-    if place != 0 {
-        let answer = compare_flat(alloc, checked, options, left, right, place)?;
+    if index != 0 {
+        let answer = compare_flat(alloc, checked, options, left, right, index)?;
         if let Some(order) = answer {
             return Ok(order);
         }
     }
-    let order = compare_whole_behind(alloc, checked, options, left, right, place)?;
+    let order = compare_whole_behind(alloc, checked, options, left, right, index)?;
     Ok(order)
 }
 
 /// The order of two texts that first differ there, where that doesn't decide it: what they have in common is left out
-/// as far as it may be. Fails only when out of memory.
+/// as far as it may be. Fails only if memory is refused.
 fn compare_past<T: Characters, U: Characters>(
     alloc: Global,
     checked: &CheckedTables<'_>,
@@ -77,8 +78,8 @@ fn compare_past<T: Characters, U: Characters>(
     requires parts { PartAt (T.characters left) (U.characters right) difference.common difference.left difference.right }
     ensures { IfOk result (λ order. order ≡ collation_order (source_collation checked.now) options.now (T.characters left) (U.characters right)) }
 {
-    let place = reading_place(checked, options, left, difference.common);
-    let order = compare_behind(alloc, checked, options, left, right, place)?;
+    let index = reading_start(checked, options, left, difference.common);
+    let order = compare_behind(alloc, checked, options, left, right, index)?;
     Ok(order)
 }
 
@@ -90,8 +91,8 @@ fn may_begin_with_syllable<T: Characters>(text: T) -> bool {
     (0xEA..0xEE).contains(&chars.peek_low())
 }
 
-/// The order of two texts, each read with a look at the next character; or where they first differ, or by reading both from a place
-/// before that. Fails only when out of memory.
+/// The order of two texts, each read with a look at the next character; or where they first differ, or by reading both from an index
+/// before that. Fails only if memory is refused.
 #[inline(never)]
 fn compare_by_difference<T: Characters, U: Characters>(
     alloc: Global,
@@ -121,7 +122,7 @@ fn compare_by_difference<T: Characters, U: Characters>(
 }
 
 /// The order of two texts: both are read flat as far as their primaries are the same, or else by their first difference. Fails
-/// only when out of memory.
+/// only if memory is refused.
 pub(crate) fn compare_texts<T: Characters, U: Characters>(
     alloc: Global,
     checked: &CheckedTables<'_>,
@@ -140,16 +141,16 @@ pub(crate) fn compare_texts<T: Characters, U: Characters>(
     }
 }
 
-/// The place from which two texts are read where their first difference doesn't decide, in characters of each. No memory
+/// The index from which two texts are read where their first difference doesn't decide, in characters of each. No memory
 /// is taken.
-pub(crate) fn common_place<T: Characters, U: Characters>(
+pub(crate) fn common_start<T: Characters, U: Characters>(
     checked: &CheckedTables<'_>,
     options: &ResolvedCollatorOptions,
     left: T,
     right: U,
 ) -> usize
-    ensures { IsCommonPlace (source_collation checked.now) options.now (T.characters left) (U.characters right) result }
+    ensures { IsCommonStart (source_collation checked.now) options.now (T.characters left) (U.characters right) result }
 {
     let difference = first_difference(left.chars(), right.chars());
-    reading_place(checked, options, left, difference.common)
+    reading_start(checked, options, left, difference.common)
 }

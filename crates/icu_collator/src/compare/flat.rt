@@ -88,9 +88,9 @@ pub(super) enum ByPrimaries {
     NotFlat,
 }
 
-/// Reads a text flat, from the place to which it was read so, behind a character of a class, up to its next primary that counts, where
-/// variable ones end before this one: answers that, the text behind it, and the class of the last character that was read, 256 where
-/// a boundary has to follow. No memory is taken.
+/// Reads a text flat, from the index to which it was read so, after a character of a class, up to its next primary that counts, where
+/// variable ones end before this one: answers that, the text after it, and the class of the last character that was read, 256 where a
+/// boundary has to follow. No memory is taken.
 #[inline(always)]
 fn next_primary<I: Iterator<Item = char> + Drop>(
     checked: &CheckedTables<'_>,
@@ -153,7 +153,7 @@ fn part<I: Iterator<Item = char> + Drop, J: Iterator<Item = char> + Drop>(
     checked.is_settled(numeric, second, &mut right, right_class)
 }
 
-/// What comes next in two texts, as it is before reordering, where both were read to behind it, each behind a character of a class:
+/// What comes next in two texts, as it is before reordering, where both were read to after it, each after a character of a class:
 /// they part only if both primaries stand, whatever else the texts hold.
 #[inline(always)]
 fn meet_settled<I: PeekLow + Drop, J: PeekLow + Drop>(
@@ -195,8 +195,8 @@ fn meet_settled<I: PeekLow + Drop, J: PeekLow + Drop>(
     meeting
 }
 
-/// What the next primaries that count say of two texts that were read up to such that are alike, each behind a character of a class;
-/// with the texts behind these primaries, and the classes of the last characters. No memory is taken.
+/// What the next primaries that count say of two texts that were read up to such that are alike, each after a character of a class;
+/// with the texts after these primaries, and the classes of the last characters. No memory is taken.
 #[inline(always)]
 fn meet_next<I: PeekLow + Drop, J: PeekLow + Drop>(
     checked: &CheckedTables<'_>,
@@ -232,7 +232,7 @@ fn meet_next<I: PeekLow + Drop, J: PeekLow + Drop>(
     (meeting, left_rest, right_rest, left_last, right_last)
 }
 
-/// The step of a character behind one of a class, where that of another is known: the same character behind the same class is looked
+/// The step of a character after one of a class, where that of another is known: the same character after the same class is looked
 /// up once.
 #[inline(always)]
 fn step_of_second(
@@ -253,8 +253,8 @@ fn step_of_second(
     checked.flat_primary(numeric, second, class)
 }
 
-/// What the next characters of two texts say, that were read up to primaries that are alike, each behind a character of a class, where
-/// one look at each tells; with the texts behind them, and their classes. `None` tells nothing. No memory is taken.
+/// What the next characters of two texts say, that were read up to primaries that are alike, each after a character of a class, where
+/// one look at each tells; with the texts after them, and their classes. `None` tells nothing. No memory is taken.
 #[inline(always)]
 fn meet_characters<I: PeekLow + Drop, J: PeekLow + Drop>(
     checked: &CheckedTables<'_>,
@@ -338,7 +338,7 @@ fn meet_either<I: PeekLow + Drop, J: PeekLow + Drop>(
     }
 }
 
-/// Reads two texts, that were read up to primaries that are alike, each behind a character of a class, on side by side as long as their
+/// Reads two texts, that were read up to primaries that are alike, each after a character of a class, on side by side as long as their
 /// primaries that count are alike. No memory is taken.
 #[inline(always)]
 fn by_further_primaries<I: PeekLow + Drop, J: PeekLow + Drop>(
@@ -395,7 +395,7 @@ fn is_long(low: u8) -> bool {
     (0xE0..0xF8).contains(&low)
 }
 
-/// Reads two texts side by side as long as their primaries that count are alike, if they don't go on with long characters behind what
+/// Reads two texts side by side as long as their primaries that count are alike, if they don't go on with long characters after what
 /// a look tells. No memory is taken.
 #[inline(always)]
 pub(super) fn by_primaries<I: PeekLow + Drop, J: PeekLow + Drop>(
@@ -422,7 +422,7 @@ pub(super) fn by_primaries<I: PeekLow + Drop, J: PeekLow + Drop>(
     by_further_primaries(checked, end, numeric, left, right, class, class)
 }
 
-/// Reads two texts, that were read up to primaries that are alike, each behind a character of a class, on character by character as
+/// Reads two texts, that were read up to primaries that are alike, each after a character of a class, on character by character as
 /// long as their primaries that count are alike. No memory is taken.
 #[inline(always)]
 fn by_further_characters<I: PeekLow + Drop, J: PeekLow + Drop>(

@@ -1,4 +1,4 @@
-//! The comparison of two texts that are read flat: by their primaries, then by the elements behind these.
+//! The comparison of two texts that are read flat: by their primaries, then by the elements after these.
 
 ghost use Rattle.std.specs.Prelude.{◌≡◌, ◌≤◌, [], IfOk, IfSome, drop, false, length, true};
 ghost use Rattle.icu_collator_core.specs.ElementLists.{unpacked};
@@ -22,34 +22,34 @@ use icu_collator_types::options::{ResolvedCollatorOptions, Strength};
 use std::alloc::{AllocError, Global};
 use std::cmp::Ordering;
 
-/// How many elements of each text are kept for the levels behind the primaries.
+/// How many elements of each text are kept for the levels after the primaries.
 const KEPT: usize = 64;
 
-/// Reads what stands in a text behind so many characters into an empty list: flat, or else by stretches; `false` where it can't be read
-/// so, or has more elements than the list has room for. Fails only when out of memory.
+/// Reads what stands in a text after so many characters into an empty list: flat, or else by stretches; `false` where it can't be read
+/// so, or has more elements than the list has room for. Fails only if memory is refused.
 #[inline(always)]
 fn read_kept<T: Characters>(
     alloc: Global,
     checked: &CheckedTables<'_>,
     numeric: Option<u8>,
     text: T,
-    place: usize,
+    index: usize,
     elements: &mut FlatElements<KEPT>,
 ) -> Result<bool, AllocError>
-    requires reaches { place ≤ length (T.characters text) }
+    requires reaches { index ≤ length (T.characters text) }
     requires empty { elements.old.items ≡ [] }
-    ensures { IfOk result (λ is_read. is_read ≡ true → unpacked elements.new.items ≡ text_elements checked.now numeric (drop place (T.characters text))) }
+    ensures { IfOk result (λ is_read. is_read ≡ true → unpacked elements.new.items ≡ text_elements checked.now numeric (drop index (T.characters text))) }
 {
-    if checked.read_flat(numeric, behind(text.chars(), place), elements) {
+    if checked.read_flat(numeric, behind(text.chars(), index), elements) {
         return Ok(true);
     }
-    let chars = behind(text.chars(), place);
+    let chars = behind(text.chars(), index);
     let is_read = checked.read_stretches(alloc, numeric, chars, elements)?;
     Ok(is_read)
 }
 
-/// The order of what stands in two texts with the same primaries behind so many characters, by the levels behind these, if both
-/// can be read so and have few elements: `None` for others. Fails only when out of memory.
+/// The order of what stands in two texts with the same primaries after so many characters, by the levels after these, if both
+/// can be read so and have few elements: `None` for others. Fails only if memory is refused.
 #[inline(never)]
 fn compare_kept<T: Characters, U: Characters>(
     alloc: Global,
@@ -57,23 +57,23 @@ fn compare_kept<T: Characters, U: Characters>(
     options: &ResolvedCollatorOptions,
     left: T,
     right: U,
-    place: usize,
+    index: usize,
 ) -> Result<Option<Ordering>, AllocError>
-    requires left_reaches { place ≤ length (T.characters left) }
-    requires right_reaches { place ≤ length (U.characters right) }
+    requires left_reaches { index ≤ length (T.characters left) }
+    requires right_reaches { index ≤ length (U.characters right) }
     requires unshifted { is_shifted options.now.alternate_handling ≡ false }
     requires inexact { is_at_least options.now.strength Identical ≡ false }
-    requires same { HaveSamePrimaries (source_collation checked.now) options.now (drop place (T.characters left)) (drop place (U.characters right)) }
+    requires same { HaveSamePrimaries (source_collation checked.now) options.now (drop index (T.characters left)) (drop index (U.characters right)) }
     ensures { IfOk result (λ answer. IfSome answer (λ order.
-        order ≡ collation_order (source_collation checked.now) options.now (drop place (T.characters left)) (drop place (U.characters right)))) }
+        order ≡ collation_order (source_collation checked.now) options.now (drop index (T.characters left)) (drop index (U.characters right)))) }
 {
     let numeric = numeric_lead(checked, options);
     let mut lefts = FlatElements::<KEPT>::new();
     let mut rights = FlatElements::<KEPT>::new();
-    if !read_kept(alloc, checked, numeric, left, place, &mut lefts)? {
+    if !read_kept(alloc, checked, numeric, left, index, &mut lefts)? {
         return Ok(None);
     }
-    if !read_kept(alloc, checked, numeric, right, place, &mut rights)? {
+    if !read_kept(alloc, checked, numeric, right, index, &mut rights)? {
         return Ok(None);
     }
     let left = ReadText {
@@ -90,7 +90,7 @@ fn compare_kept<T: Characters, U: Characters>(
     Ok(Some(order))
 }
 
-/// The same at each strength: `None` at `Identical`. Fails only when out of memory.
+/// The same at each strength: `None` at `Identical`. Fails only if memory is refused.
 #[inline(never)]
 fn compare_same<T: Characters, U: Characters>(
     alloc: Global,
@@ -98,23 +98,23 @@ fn compare_same<T: Characters, U: Characters>(
     options: &ResolvedCollatorOptions,
     left: T,
     right: U,
-    place: usize,
+    index: usize,
 ) -> Result<Option<Ordering>, AllocError>
-    requires left_reaches { place ≤ length (T.characters left) }
-    requires right_reaches { place ≤ length (U.characters right) }
+    requires left_reaches { index ≤ length (T.characters left) }
+    requires right_reaches { index ≤ length (U.characters right) }
     requires unshifted { is_shifted options.now.alternate_handling ≡ false }
-    requires same { HaveSamePrimaries (source_collation checked.now) options.now (drop place (T.characters left)) (drop place (U.characters right)) }
+    requires same { HaveSamePrimaries (source_collation checked.now) options.now (drop index (T.characters left)) (drop index (U.characters right)) }
     ensures { IfOk result (λ answer. IfSome answer (λ order.
-        order ≡ collation_order (source_collation checked.now) options.now (drop place (T.characters left)) (drop place (U.characters right)))) }
+        order ≡ collation_order (source_collation checked.now) options.now (drop index (T.characters left)) (drop index (U.characters right)))) }
 {
     if options.strength.is_at_least(Strength::Identical) {
         return Ok(None);
     }
-    let answer = compare_kept(alloc, checked, options, left, right, place)?;
+    let answer = compare_kept(alloc, checked, options, left, right, index)?;
     Ok(answer)
 }
 
-/// The order of what stands in two texts behind so many characters, if both are read flat up to primaries that count and differ, where
+/// The order of what stands in two texts after so many characters, if both are read flat up to primaries that count and differ, where
 /// variable elements are shifted: `None` for others. No memory is taken.
 #[inline(never)]
 fn compare_shifted<T: Characters, U: Characters>(
@@ -122,17 +122,17 @@ fn compare_shifted<T: Characters, U: Characters>(
     options: &ResolvedCollatorOptions,
     left: T,
     right: U,
-    place: usize,
+    index: usize,
 ) -> Option<Ordering>
-    requires left_reaches { place ≤ length (T.characters left) }
-    requires right_reaches { place ≤ length (U.characters right) }
+    requires left_reaches { index ≤ length (T.characters left) }
+    requires right_reaches { index ≤ length (U.characters right) }
     ensures { IfSome result (λ order.
-        order ≡ collation_order (source_collation checked.now) options.now (drop place (T.characters left)) (drop place (U.characters right))) }
+        order ≡ collation_order (source_collation checked.now) options.now (drop index (T.characters left)) (drop index (U.characters right))) }
 {
     let numeric = numeric_lead(checked, options);
     let end = variable_end(checked, options);
-    let lefts = behind(left.chars(), place);
-    let rights = behind(right.chars(), place);
+    let lefts = behind(left.chars(), index);
+    let rights = behind(right.chars(), index);
     match by_primaries(checked, end, numeric, lefts, rights) {
         ByPrimaries::Decided(order) => Some(order),
         ByPrimaries::NotFlat => None,
@@ -140,8 +140,8 @@ fn compare_shifted<T: Characters, U: Characters>(
     }
 }
 
-/// The order of what stands in two texts behind so many characters, if both are read flat as far as it takes: `None` for
-/// others. Fails only when out of memory.
+/// The order of what stands in two texts after so many characters, if both are read flat as far as it takes: `None` for
+/// others. Fails only if memory is refused.
 #[inline(always)]
 pub(super) fn compare_flat<T: Characters, U: Characters>(
     alloc: Global,
@@ -149,31 +149,31 @@ pub(super) fn compare_flat<T: Characters, U: Characters>(
     options: &ResolvedCollatorOptions,
     left: T,
     right: U,
-    place: usize,
+    index: usize,
 ) -> Result<Option<Ordering>, AllocError>
-    requires left_reaches { place ≤ length (T.characters left) }
-    requires right_reaches { place ≤ length (U.characters right) }
+    requires left_reaches { index ≤ length (T.characters left) }
+    requires right_reaches { index ≤ length (U.characters right) }
     ensures { IfOk result (λ answer. IfSome answer (λ order.
-        order ≡ collation_order (source_collation checked.now) options.now (drop place (T.characters left)) (drop place (U.characters right)))) }
+        order ≡ collation_order (source_collation checked.now) options.now (drop index (T.characters left)) (drop index (U.characters right)))) }
 {
     if !is_unshifted(options) {
-        return Ok(compare_shifted(checked, options, left, right, place));
+        return Ok(compare_shifted(checked, options, left, right, index));
     }
     let numeric = numeric_lead(checked, options);
-    let lefts = behind(left.chars(), place);
-    let rights = behind(right.chars(), place);
+    let lefts = behind(left.chars(), index);
+    let rights = behind(right.chars(), index);
     match by_characters(checked, 0, numeric, lefts, rights) {
         ByPrimaries::Decided(order) => Ok(Some(order)),
         ByPrimaries::NotFlat => Ok(None),
         ByPrimaries::Same => {
-            let answer = compare_same(alloc, checked, options, left, right, place)?;
+            let answer = compare_same(alloc, checked, options, left, right, index)?;
             Ok(answer)
         }
     }
 }
 
 /// The order of two texts, if both are read with a look at the next character as far as it takes: `None` for others, and where numbers
-/// are read. Fails only when out of memory.
+/// are read. Fails only if memory is refused.
 #[inline(never)]
 pub(super) fn compare_ahead<T: Characters, U: Characters>(
     alloc: Global,

@@ -15,7 +15,7 @@ use icu_collator_core::checked::CheckedTables;
 #[derive(Drop)]
 pub(super) struct CommonBoundary<I, J> {
     /// How many characters of both stand before it.
-    pub(super) place: usize,
+    pub(super) index: usize,
     /// The left text from there on.
     pub(super) left: I,
     /// The right text from there on.
@@ -51,14 +51,14 @@ pub(super) fn difference_and_boundary<I: PeekLow + Drop, J: PeekLow + Drop>(
     requires right_ends { IsFinite (J.remaining right) }
     ensures parts { (a b : List ℕ) → Spells I.next_gives left a → Spells J.next_gives right b → PartAt a b result.0.common result.0.left result.0.right }
     ensures boundary { (a b : List ℕ) → Spells I.next_gives left a → Spells J.next_gives right b
-        → BeginAt checked.now I.next_gives J.next_gives a b result.1.place result.1.left result.1.right }
+        → BeginAt checked.now I.next_gives J.next_gives a b result.1.index result.1.left result.1.right }
     ensures left { I.can_next result.1.left }
     ensures left_ends { IsFinite (I.remaining result.1.left) }
     ensures right { J.can_next result.1.right }
     ensures right_ends { IsFinite (J.remaining result.1.right) }
 {
     let mut boundary = CommonBoundary {
-        place: 0,
+        index: 0,
         left: left.again(),
         right: right.again(),
     };
@@ -67,7 +67,7 @@ pub(super) fn difference_and_boundary<I: PeekLow + Drop, J: PeekLow + Drop>(
     let mut common = 0usize;
     'common: loop {
         let here = CommonBoundary {
-            place: common,
+            index: common,
             left: left.again(),
             right: right.again(),
         };

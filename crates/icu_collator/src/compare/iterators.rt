@@ -13,7 +13,7 @@ use icu_collator_types::options::ResolvedCollatorOptions;
 use std::alloc::{AllocError, Global};
 use std::cmp::Ordering;
 
-/// The order of two texts: both are read, then compared level by level. Fails only when out of memory.
+/// The order of two texts: both are read, then compared level by level. Fails only if memory is refused.
 pub(crate) fn compare_characters<I: Iterator<Item = char> + Drop, J: Iterator<Item = char> + Drop>(
     alloc: Global,
     checked: &CheckedTables<'_>,

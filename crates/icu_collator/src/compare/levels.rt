@@ -35,7 +35,7 @@ pub(super) fn compare_primaries(
     )
 }
 
-/// By the secondaries, where they are read backward. Fails only when out of memory.
+/// By the secondaries, where they are read backward. Fails only if memory is refused.
 fn compare_backward(
     alloc: Global,
     checked: &CheckedTables<'_>,
@@ -63,7 +63,7 @@ fn compare_forward(left: ReadText<'_>, right: ReadText<'_>) -> Ordering
     )
 }
 
-/// By the secondaries. Fails only when out of memory.
+/// By the secondaries. Fails only if memory is refused.
 pub(super) fn compare_secondaries(
     alloc: Global,
     checked: &CheckedTables<'_>,
@@ -83,7 +83,7 @@ pub(super) fn compare_secondaries(
     Ok(compare_forward(left, right))
 }
 
-/// By the cases. Fails only when out of memory.
+/// By the cases. Fails only if memory is refused.
 pub(super) fn compare_cases(
     alloc: Global,
     options: &ResolvedCollatorOptions,
@@ -122,7 +122,7 @@ pub(super) fn compare_tertiaries(
     )
 }
 
-/// By the quaternaries, shifted primaries among them. Fails only when out of memory.
+/// By the quaternaries, shifted primaries among them. Fails only if memory is refused.
 pub(super) fn compare_quaternaries(
     alloc: Global,
     checked: &CheckedTables<'_>,
@@ -148,7 +148,7 @@ fn character_rank(c: char) -> u32
     if code == 0xfffe { 0 } else { code + 1 }
 }
 
-/// The ranks of characters. Fails only when out of memory.
+/// The ranks of characters. Fails only if memory is refused.
 fn character_ranks(alloc: Global, list: &[char]) -> Result<SmallVec<u32, 64>, AllocError>
     ensures { IfOk result (λ ranks. ranks.items ≡ map character_rank list.now) }
 {
@@ -159,7 +159,7 @@ fn character_ranks(alloc: Global, list: &[char]) -> Result<SmallVec<u32, 64>, Al
     Ok(ranks)
 }
 
-/// By the characters of the decomposed lists. Fails only when out of memory.
+/// By the characters of the decomposed lists. Fails only if memory is refused.
 pub(super) fn compare_listed_characters(
     alloc: Global,
     options: &ResolvedCollatorOptions,

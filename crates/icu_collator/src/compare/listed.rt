@@ -21,7 +21,7 @@ use icu_collator_types::options::{ResolvedCollatorOptions, Strength};
 use std::alloc::{AllocError, Global};
 use std::cmp::Ordering;
 
-/// The order of two lists of elements by those that count, below `Identical`. Fails only when out of memory.
+/// The order of two lists of elements by those that count, below `Identical`. Fails only if memory is refused.
 fn compare_counted(
     alloc: Global,
     checked: &CheckedTables<'_>,
@@ -50,8 +50,8 @@ fn compare_counted(
     Ok(order)
 }
 
-/// The order of two lists of elements, below `Identical`: where some may be variable, those that count are kept. Fails only when
-/// out of memory.
+/// The order of two lists of elements, below `Identical`: where some may be variable, those that count are kept. Fails only if
+/// memory is refused.
 fn compare_elements(
     alloc: Global,
     checked: &CheckedTables<'_>,
@@ -86,7 +86,7 @@ fn counts_apart(options: &ResolvedCollatorOptions, elements: &[CollationElement]
     }
 }
 
-/// Whether the levels of texts with a front in common compare as those of what stands behind it, where these are its elements.
+/// Whether the levels of texts with a front in common compare as those of what stands after it, where these are its elements.
 fn may_leave_front(
     checked: &CheckedTables<'_>,
     options: &ResolvedCollatorOptions,
@@ -106,8 +106,8 @@ fn may_leave_front(
     counts_apart(options, rights)
 }
 
-/// The order of two texts that end with these elements behind a front that they have in common, which is empty where they are
-/// whole: `None` at `Identical`, and where the front counts. Fails only when out of memory.
+/// The order of two texts that end with these elements after a front that they have in common, which is empty where they are
+/// whole: `None` at `Identical`, and where the front counts. Fails only if memory is refused.
 #[inline(never)]
 pub(super) fn compare_elements_behind(
     alloc: Global,

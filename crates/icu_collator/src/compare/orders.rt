@@ -14,7 +14,7 @@ use icu_collator_types::options::ResolvedCollatorOptions;
 use std::alloc::{AllocError, Global};
 use std::cmp::Ordering;
 
-/// By the quaternaries, then the characters. Fails only when out of memory.
+/// By the quaternaries, then the characters. Fails only if memory is refused.
 #[tactic(auto, unfolding(crate::specs::TextsRead::order_from_quaternaries))]
 fn compare_from_quaternaries(
     alloc: Global,
@@ -35,7 +35,7 @@ fn compare_from_quaternaries(
     }
 }
 
-/// By the tertiary level, then those behind it. Fails only when out of memory.
+/// By the tertiary level, then those after it. Fails only if memory is refused.
 #[tactic(auto, unfolding(crate::specs::TextsRead::order_from_tertiaries))]
 fn compare_from_tertiaries(
     alloc: Global,
@@ -56,7 +56,7 @@ fn compare_from_tertiaries(
     }
 }
 
-/// By the cases, then the levels behind them. Fails only when out of memory.
+/// By the cases, then the levels after them. Fails only if memory is refused.
 #[tactic(auto, unfolding(crate::specs::TextsRead::order_from_cases))]
 fn compare_from_cases(
     alloc: Global,
@@ -77,7 +77,7 @@ fn compare_from_cases(
     }
 }
 
-/// By the secondaries, then the levels behind them. Fails only when out of memory.
+/// By the secondaries, then the levels after them. Fails only if memory is refused.
 #[tactic(auto, unfolding(crate::specs::TextsRead::order_from_secondaries))]
 pub(super) fn compare_from_secondaries(
     alloc: Global,
@@ -98,7 +98,7 @@ pub(super) fn compare_from_secondaries(
     }
 }
 
-/// By all levels in turn. Fails only when out of memory.
+/// By all levels in turn. Fails only if memory is refused.
 #[tactic(auto, unfolding(crate::specs::TextsRead::read_order))]
 pub(super) fn compare_read(
     alloc: Global,

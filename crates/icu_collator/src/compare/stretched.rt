@@ -30,15 +30,15 @@ use std::cmp::Ordering;
 /// How many elements of each text are read so.
 const KEPT: usize = 64;
 
-/// The first primary from a place on that counts, and the place behind its element.
+/// The first primary from an index on that counts, and the index after its element.
 #[inline(always)]
-fn first_primary(elements: &[CollationElement], place: usize, end: u32) -> Option<(u32, usize)>
-    requires { place ≤ length elements.now }
+fn first_primary(elements: &[CollationElement], index: usize, end: u32) -> Option<(u32, usize)>
+    requires { index ≤ length elements.now }
     ensures within { IfSome result (λ found. found.1 ≤ length elements.now) }
-    ensures primary { IfSome result (λ found. counted_primaries end (take found.1 elements.now) ≡ counted_primaries end (take place elements.now) ++ found.0 ∷ []) }
-    ensures none { IfNone result (counted_primaries end elements.now ≡ counted_primaries end (take place elements.now)) }
+    ensures primary { IfSome result (λ found. counted_primaries end (take found.1 elements.now) ≡ counted_primaries end (take index elements.now) ++ found.0 ∷ []) }
+    ensures none { IfNone result (counted_primaries end elements.now ≡ counted_primaries end (take index elements.now)) }
 {
-    for at in place..elements.len() {
+    for at in index..elements.len() {
         let primary = elements[at].primary();
         if counts(primary, end) {
             return Some((primary, at + 1));
@@ -48,7 +48,7 @@ fn first_primary(elements: &[CollationElement], place: usize, end: u32) -> Optio
 }
 
 /// Reads on in a text, of whose elements so many were met, up to the next with a primary that counts: answers that, what is left of
-/// the text, and how many elements were met then. Fails only when out of memory.
+/// the text, and how many elements were met then. Fails only if memory is refused.
 #[inline(never)]
 fn next_settled<I: Iterator<Item = char> + Drop>(
     checked: &CheckedTables<'_>,
@@ -72,8 +72,8 @@ fn next_settled<I: Iterator<Item = char> + Drop>(
         if met > settled.len() {
             return Ok((FlatStep::Other, chars, met));
         }
-        if let Some((primary, place)) = first_primary(settled, met, end) {
-            return Ok((FlatStep::Primary(primary), chars, place));
+        if let Some((primary, index)) = first_primary(settled, met, end) {
+            return Ok((FlatStep::Primary(primary), chars, index));
         }
         if text.is_ended() {
             return Ok((FlatStep::End, chars, met));
@@ -88,7 +88,7 @@ fn next_settled<I: Iterator<Item = char> + Drop>(
 }
 
 /// Reads two texts side by side, of which nothing was read, as far as their primaries are the same: how they part, that both end, or
-/// that one can't be read so. Fails only when out of memory.
+/// that one can't be read so. Fails only if memory is refused.
 #[inline(always)]
 fn race<I: Iterator<Item = char> + Drop, J: Iterator<Item = char> + Drop>(
     checked: &CheckedTables<'_>,
@@ -139,7 +139,7 @@ fn race<I: Iterator<Item = char> + Drop, J: Iterator<Item = char> + Drop>(
 }
 
 /// The order of two texts with a boundary in common, if both can be read by stretches from it as far as it takes, and have few
-/// elements: `None` for others, and for some whose primaries are the same. Fails only when out of memory.
+/// elements: `None` for others, and for some whose primaries are the same. Fails only if memory is refused.
 #[inline(never)]
 pub(super) fn compare_stretched<I: Iterator<Item = char> + Drop, J: Iterator<Item = char> + Drop>(
     alloc: Global,
@@ -152,7 +152,7 @@ pub(super) fn compare_stretched<I: Iterator<Item = char> + Drop, J: Iterator<Ite
     requires right { J.can_next boundary.right }
     requires right_ends { IsFinite (J.remaining boundary.right) }
     ensures { IfOk result (λ answer. IfSome answer (λ order. (a b : List ℕ) → All IsScalar a → All IsScalar b
-        → BeginAt checked.now I.next_gives J.next_gives a b boundary.place boundary.left boundary.right
+        → BeginAt checked.now I.next_gives J.next_gives a b boundary.index boundary.left boundary.right
         → order ≡ collation_order (source_collation checked.now) options.now a b)) }
 {
     let mut lefts = StretchedElements::new(alloc);
@@ -162,7 +162,7 @@ pub(super) fn compare_stretched<I: Iterator<Item = char> + Drop, J: Iterator<Ite
     match race(checked, options, left, right, &mut lefts, &mut rights)? {
         Meeting::Parted(order) => Ok(Some(order)),
         Meeting::BothEnd => {
-            let is_whole = boundary.place == 0;
+            let is_whole = boundary.index == 0;
             let answer = compare_elements_behind(
                 alloc,
                 checked,

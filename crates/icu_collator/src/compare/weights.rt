@@ -33,33 +33,33 @@ fn orders_of(
     Some((secondary.cmp(&other), tertiary.cmp(&further)))
 }
 
-/// The order of two lists of elements from a place on where one of them ends, and up to which their tertiaries have this order;
+/// The order of two lists of elements from an index on where one of them ends, and up to which their tertiaries have this order;
 /// `None` where the next element of the other has no secondary.
 #[inline(always)]
 fn order_at_end(
     known: Ordering,
     left: &[CollationElement],
     right: &[CollationElement],
-    place: usize,
+    index: usize,
 ) -> Option<Ordering>
-    requires left_within { place ≤ length left.now }
-    requires right_within { place ≤ length right.now }
-    requires ended { (place ≡ length left.now) ⊎ (place ≡ length right.now) }
+    requires left_within { index ≤ length left.now }
+    requires right_within { index ≤ length right.now }
+    requires ended { (index ≡ length left.now) ⊎ (index ≡ length right.now) }
     ensures { IfSome result (λ order. (options : ResolvedCollatorOptions)
-        → order ≡ weights_order options known (drop place left.now) (drop place right.now)) }
+        → order ≡ weights_order options known (drop index left.now) (drop index right.now)) }
 {
-    if place < left.len() {
-        let _rank = secondary_rank_at(CountedElement::Whole(left[place]))?;
+    if index < left.len() {
+        let _rank = secondary_rank_at(CountedElement::Whole(left[index]))?;
         return Some(Ordering::Greater);
     }
-    if place < right.len() {
-        let _rank = secondary_rank_at(CountedElement::Whole(right[place]))?;
+    if index < right.len() {
+        let _rank = secondary_rank_at(CountedElement::Whole(right[index]))?;
         return Some(Ordering::Less);
     }
     Some(known)
 }
 
-/// The order of two lists of elements by their secondaries, then by their tertiaries; `None` where elements at one place differ and
+/// The order of two lists of elements by their secondaries, then by their tertiaries; `None` where elements at one index differ and
 /// one lacks one of these.
 #[inline(always)]
 fn order_by_weights(
@@ -71,9 +71,9 @@ fn order_by_weights(
 {
     let common = left.len().min(right.len());
     let mut known = Ordering::Equal;
-    for place in 0..common {
-        let first = left[place];
-        let second = right[place];
+    for index in 0..common {
+        let first = left[index];
+        let second = right[index];
         if first != second {
             let (secondary, tertiary) = orders_of(options, first, second)?;
             if secondary != Ordering::Equal {
@@ -86,7 +86,7 @@ fn order_by_weights(
     Some(order)
 }
 
-/// Whether secondaries and tertiaries alone count behind the primaries, both in the order of the text.
+/// Whether secondaries and tertiaries alone count after the primaries, both in the order of the text.
 fn has_two_levels(checked: &CheckedTables<'_>, options: &ResolvedCollatorOptions) -> bool
     ensures { result ≡ true → HasTwoLevels (source_collation checked.now) options.now }
 {
@@ -100,7 +100,7 @@ fn has_two_levels(checked: &CheckedTables<'_>, options: &ResolvedCollatorOptions
         && !checked.tables().metadata.backward_second_level()
 }
 
-/// By the secondaries, then the levels behind them, where no element is variable. Fails only when out of memory.
+/// By the secondaries, then the levels after them, where no element is variable. Fails only if memory is refused.
 pub(super) fn compare_behind_primaries(
     alloc: Global,
     checked: &CheckedTables<'_>,

@@ -36,7 +36,7 @@ impl<'a> Utf16Steps<'a> {
     }
 }
 
-/// The first character where one unit spells it, and the units behind it. `None` says nothing.
+/// The first character where one unit spells it, and the units after it. `None` says nothing.
 #[inline(always)]
 fn short_char(units: &[u16]) -> Option<(char, &[u16])>
     ensures { IfSome result (λ r. utf16_chars units.now ≡ r.0 ∷ utf16_chars r.1.now) }
@@ -46,7 +46,7 @@ fn short_char(units: &[u16]) -> Option<(char, &[u16])>
     Some((first, rest))
 }
 
-/// The first character of any units, and the units behind it.
+/// The first character of any units, and the units after it.
 #[inline(never)]
 fn any_char(units: &[u16]) -> Option<(char, &[u16])>
     ensures { MatchOption result (utf16_chars units.now ≡ []) (λ r. utf16_chars units.now ≡ r.0 ∷ utf16_chars r.1.now) }

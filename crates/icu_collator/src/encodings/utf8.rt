@@ -36,7 +36,7 @@ impl<'a> Utf8Steps<'a> {
     }
 }
 
-/// The first character where one or two bytes spell it, and the bytes behind it. `None` says nothing.
+/// The first character where one or two bytes spell it, and the bytes after it. `None` says nothing.
 #[inline(always)]
 fn short_char(bytes: &[u8]) -> Option<(char, &[u8])>
     ensures { IfSome result (λ r. utf8_chars bytes.now ≡ r.0 ∷ utf8_chars r.1.now) }
@@ -100,7 +100,7 @@ fn any_char(bytes: &[u8]) -> Option<char>
     chars.next()
 }
 
-/// The bytes behind the first character of any. Apart from `any_char`, so that both answer in registers.
+/// The bytes after the first character of any. Apart from `any_char`, so that both answer in registers.
 #[inline(never)]
 fn behind_any_char(bytes: &[u8]) -> &[u8]
     ensures { utf8_chars result.now ≡ drop 1 (utf8_chars bytes.now) }
@@ -110,7 +110,7 @@ fn behind_any_char(bytes: &[u8]) -> &[u8]
     chars.as_bytes()
 }
 
-/// The first character of any bytes, and the bytes behind it: by a look at the bytes alone where one, two or three spell it.
+/// The first character of any bytes, and the bytes after it: by a look at the bytes alone where one, two or three spell it.
 #[inline(always)]
 fn first_char(bytes: &[u8]) -> Option<(char, &[u8])>
     ensures { MatchOption result (utf8_chars bytes.now ≡ []) (λ r. utf8_chars bytes.now ≡ r.0 ∷ utf8_chars r.1.now) }

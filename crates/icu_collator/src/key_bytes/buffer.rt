@@ -74,7 +74,7 @@ impl KeyBytes {
         }
     }
 
-    /// Appends a byte. Fails only when out of memory, and not while there is room.
+    /// Appends a byte. Fails only if memory is refused, and not while there is room.
     #[inline(always)]
     pub(crate) fn push(&mut self, byte: u8) -> Result<(), AllocError>
         ensures ok { OnOk result (self.new.items ≡ self.old.items ++ byte ∷ []) }
@@ -94,15 +94,15 @@ impl KeyBytes {
         ensures put { result ≡ true → self.new.items ≡ self.old.items ++ take count (first ∷ second ∷ third ∷ fourth ∷ []) }
         ensures full { result ≡ false → self.new.items ≡ self.old.items }
     {
-        let place = self.length;
-        if place > ROOM - 4 {
+        let index = self.length;
+        if index > ROOM - 4 {
             return false;
         }
-        self.array[place] = first;
-        self.array[place + 1] = second;
-        self.array[place + 2] = third;
-        self.array[place + 3] = fourth;
-        self.length = place + count;
+        self.array[index] = first;
+        self.array[index + 1] = second;
+        self.array[index + 2] = third;
+        self.array[index + 3] = fourth;
+        self.length = index + count;
         true
     }
 
@@ -118,17 +118,17 @@ impl KeyBytes {
         ensures put { result ≡ true → self.new.items ≡ self.old.items ++ first ∷ second ∷ [] }
         ensures full { result ≡ false → self.new.items ≡ self.old.items }
     {
-        let place = self.length;
-        if place > ROOM - 2 {
+        let index = self.length;
+        if index > ROOM - 2 {
             return false;
         }
-        self.array[place] = first;
-        self.array[place + 1] = second;
-        self.length = place + 2;
+        self.array[index] = first;
+        self.array[index + 1] = second;
+        self.length = index + 2;
         true
     }
 
-    /// Appends a byte to an array that is full, or to those that don't fit. Fails only when out of memory.
+    /// Appends a byte to an array that is full, or to those that don't fit. Fails only if memory is refused.
     #[cold]
     #[inline(never)]
     fn push_long(&mut self, byte: u8) -> Result<(), AllocError>

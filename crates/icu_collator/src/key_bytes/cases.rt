@@ -17,7 +17,7 @@ fn are_lower(cases: &[u32]) -> bool
     cases.iter().all(|case| *case == 0)
 }
 
-/// Appends the half bytes of cases. Fails only when out of memory.
+/// Appends the half bytes of cases. Fails only if memory is refused.
 #[tactic(auto, unfolding(crate::specs::KeyCodes::code_of, crate::specs::KeyCodes::rank_limit))]
 fn write_halves(
     is_upper_first: bool,
@@ -38,23 +38,23 @@ fn write_halves(
     Ok(())
 }
 
-/// Appends half bytes in pairs, the upper half first; a last odd one stands with 0. Fails only when out of memory.
+/// Appends half bytes in pairs, the upper half first; a last odd one stands with 0. Fails only if memory is refused.
 fn write_pairs(halves: &[u8], key: &mut KeyBytes) -> Result<(), AllocError>
     requires { All (λ half. half < 16) halves.now }
     ensures { OnOk result (key.new.items ≡ key.old.items ++ paired_halves halves.now) }
 {
-    let mut place = 0;
-    'pairs: while halves.len() - place > 1 {
-        key.push(halves[place] * 16 + halves[place + 1])?;
-        place += 2;
+    let mut index = 0;
+    'pairs: while halves.len() - index > 1 {
+        key.push(halves[index] * 16 + halves[index + 1])?;
+        index += 2;
     }
-    if place < halves.len() {
-        key.push(halves[place] * 16)?;
+    if index < halves.len() {
+        key.push(halves[index] * 16)?;
     }
     Ok(())
 }
 
-/// Appends the case level. Fails only when out of memory.
+/// Appends the case level. Fails only if memory is refused.
 pub(super) fn write_cases(
     is_upper_first: bool,
     cases: &[u32],

@@ -40,7 +40,7 @@ fn difference_digit(unit: u64, near: u64, c: u64) -> u8
     3 + ((16_194_277 * unit + c - near) / unit % 253) as u8
 }
 
-/// Appends the last two bytes of a difference. Fails only when out of memory.
+/// Appends the last two bytes of a difference. Fails only if memory is refused.
 fn write_two_digits(near: u64, c: u64, key: &mut KeyBytes) -> Result<(), AllocError>
     requires near { near < 1114200 }
     requires c { c < 0x110000 }
@@ -51,7 +51,7 @@ fn write_two_digits(near: u64, c: u64, key: &mut KeyBytes) -> Result<(), AllocEr
     Ok(())
 }
 
-/// Appends the last three bytes of a difference. Fails only when out of memory.
+/// Appends the last three bytes of a difference. Fails only if memory is refused.
 fn write_three_digits(near: u64, c: u64, key: &mut KeyBytes) -> Result<(), AllocError>
     requires near { near < 1114200 }
     requires c { c < 0x110000 }
@@ -63,7 +63,7 @@ fn write_three_digits(near: u64, c: u64, key: &mut KeyBytes) -> Result<(), Alloc
     Ok(())
 }
 
-/// Appends the difference of a character from an expected one above it. Fails only when out of memory.
+/// Appends the difference of a character from an expected one above it. Fails only if memory is refused.
 fn write_below(near: u64, c: u64, key: &mut KeyBytes) -> Result<(), AllocError>
     requires near { near < 1114200 }
     requires c { c < 0x110000 }
@@ -85,7 +85,7 @@ fn write_below(near: u64, c: u64, key: &mut KeyBytes) -> Result<(), AllocError>
     Ok(())
 }
 
-/// Appends the difference of a character from an expected one near or below it. Fails only when out of memory.
+/// Appends the difference of a character from an expected one near or below it. Fails only if memory is refused.
 fn write_above(near: u64, c: u64, key: &mut KeyBytes) -> Result<(), AllocError>
     requires near { near < 1114200 }
     requires c { c < 0x110000 }
@@ -111,7 +111,7 @@ fn write_above(near: u64, c: u64, key: &mut KeyBytes) -> Result<(), AllocError>
     Ok(())
 }
 
-/// Appends a character after another. Fails only when out of memory.
+/// Appends a character after another. Fails only if memory is refused.
 fn write_character(last: u64, c: u64, key: &mut KeyBytes) -> Result<(), AllocError>
     requires last { last < 0x110000 }
     requires c { c < 0x110000 }
@@ -130,7 +130,7 @@ fn write_character(last: u64, c: u64, key: &mut KeyBytes) -> Result<(), AllocErr
     Ok(())
 }
 
-/// The character that the next one is written behind.
+/// The character that the next one is written after.
 fn last_character(c: u64) -> u64
     requires { c < 0x110000 }
     ensures last { (before : ℕ) → result ≡ last_character before c }
@@ -139,7 +139,7 @@ fn last_character(c: u64) -> u64
     if c == 0xfffe { 0 } else { c }
 }
 
-/// Appends the identical level. Fails only when out of memory.
+/// Appends the identical level. Fails only if memory is refused.
 pub(super) fn write_characters(list: &[char], key: &mut KeyBytes) -> Result<(), AllocError>
     ensures { OnOk result (key.new.items ≡ key.old.items ++ character_level list.now) }
 {

@@ -1,4 +1,4 @@
-//! The levels of a key behind the primary one, each with the bytes that separate and end it.
+//! The levels of a key after the primary one, each with the bytes that separate and end it.
 
 ghost use Rattle.std.specs.Prelude.{◌≡◌, ◌<◌, ◌≤◌, ◌+◌, ◌^◌, [], ◌∷◌, ◌++◌, List, false, filter_map, map, true, All, OnOk};
 ghost use Rattle.std.specs.List.{list_all};
@@ -31,7 +31,7 @@ use std::alloc::AllocError;
 /// The byte that separates levels, and that ends some.
 const LEVEL_SEPARATOR: u8 = 0x01;
 
-/// Appends the secondary level, given by ranks. Fails only when out of memory.
+/// Appends the secondary level, given by ranks. Fails only if memory is refused.
 pub(super) fn write_secondary_level(ranks: &[u32], key: &mut KeyBytes) -> Result<(), AllocError>
     requires { All (λ rank. rank ≤ 2 ^ 16) ranks.now }
     ensures { OnOk result ((places : List SecondaryPlace) → map secondary_rank places ≡ ranks.now
@@ -43,7 +43,7 @@ pub(super) fn write_secondary_level(ranks: &[u32], key: &mut KeyBytes) -> Result
     Ok(())
 }
 
-/// Appends the secondary level in the order of the text. Fails only when out of memory.
+/// Appends the secondary level in the order of the text. Fails only if memory is refused.
 #[inline(always)]
 pub(super) fn write_forward_level(
     elements: &[CollationElement],
@@ -77,7 +77,7 @@ fn is_upper_first(case_first: CollationCaseFirst) -> bool
     }
 }
 
-/// Appends the case level. Fails only when out of memory.
+/// Appends the case level. Fails only if memory is refused.
 pub(super) fn write_case_level(
     options: &ResolvedCollatorOptions,
     cases: &[u32],
@@ -112,7 +112,7 @@ fn tells_none(_element: CountedElement) -> bool
     false
 }
 
-/// Appends the weights of the tertiary level. Fails only when out of memory.
+/// Appends the weights of the tertiary level. Fails only if memory is refused.
 #[inline(always)]
 fn write_tertiaries(
     options: &ResolvedCollatorOptions,
@@ -146,7 +146,7 @@ fn write_tertiaries(
     Ok(())
 }
 
-/// Appends the tertiary level. Fails only when out of memory.
+/// Appends the tertiary level. Fails only if memory is refused.
 #[inline(always)]
 pub(super) fn write_tertiary_level(
     options: &ResolvedCollatorOptions,
@@ -174,7 +174,7 @@ pub(super) fn is_shifted(handling: AlternateHandling) -> bool
     }
 }
 
-/// Appends the quaternary level, given by ranks. Fails only when out of memory.
+/// Appends the quaternary level, given by ranks. Fails only if memory is refused.
 pub(super) fn write_quaternary_level(
     options: &ResolvedCollatorOptions,
     ranks: &[u64],
@@ -190,7 +190,7 @@ pub(super) fn write_quaternary_level(
     Ok(())
 }
 
-/// Appends the quaternary level of elements, where something can be shifted. Fails only when out of memory.
+/// Appends the quaternary level of elements, where something can be shifted. Fails only if memory is refused.
 pub(super) fn write_shifted_quaternaries(
     checked: &CheckedTables<'_>,
     options: &ResolvedCollatorOptions,
@@ -208,7 +208,7 @@ pub(super) fn write_shifted_quaternaries(
     Ok(())
 }
 
-/// Appends the identical level. Fails only when out of memory.
+/// Appends the identical level. Fails only if memory is refused.
 pub(super) fn write_identical_level(list: &[char], key: &mut KeyBytes) -> Result<(), AllocError>
     ensures { OnOk result (key.new.items ≡ key.old.items ++ 0x01 ∷ character_level list.now) }
 {

@@ -25,7 +25,7 @@ fn lead_of(primary: u32) -> u8
     (primary >> 24) as u8
 }
 
-/// Appends what ends a run of primaries with one lead before a primary with another. Fails only when out of memory.
+/// Appends what ends a run of primaries with one lead before a primary with another. Fails only if memory is refused.
 #[inline(never)]
 fn write_run_end(before: u8, lead: u8, key: &mut KeyBytes) -> Result<(), AllocError>
     ensures { OnOk result (key.new.items ≡ key.old.items ++ run_end before lead) }
@@ -41,7 +41,7 @@ fn write_run_end(before: u8, lead: u8, key: &mut KeyBytes) -> Result<(), AllocEr
     Ok(())
 }
 
-/// Appends a primary after no run, or after one of primaries with a compressible lead. Fails only when out of memory.
+/// Appends a primary after no run, or after one of primaries with a compressible lead. Fails only if memory is refused.
 #[inline(always)]
 fn write_primary(run: Option<u8>, primary: u32, key: &mut KeyBytes) -> Result<(), AllocError>
     ensures { OnOk result (key.new.items ≡ key.old.items ++ primary_code run primary) }
@@ -103,8 +103,8 @@ fn run_after(checked: &CheckedTables<'_>, primary: u32, in_place: u32) -> Option
     }
 }
 
-/// Appends what an element gives, if it has a primary that counts; answers the lead of the run then. Fails only when out of
-/// memory.
+/// Appends what an element gives, if it has a primary that counts; answers the lead of the run then. Fails only if memory
+/// is refused.
 #[inline(always)]
 fn write_given(
     checked: &CheckedTables<'_>,
@@ -123,43 +123,44 @@ fn write_given(
     Ok(run_after(checked, primary, in_place))
 }
 
-/// Whether the element at a place has a short primary with the lead of the one before it.
+/// Whether the element at an index has a short primary with the lead of the one before it.
 #[inline(always)]
-fn is_alike(elements: &[CollationElement], place: usize) -> bool {
-    if place == 0 || place >= elements.len() {
+fn is_alike(elements: &[CollationElement], index: usize) -> bool {
+    if index == 0 || index >= elements.len() {
         return false;
     }
-    let lead = lead_of(elements[place - 1].primary());
-    is_short(elements[place].primary(), u16::from(lead))
+    let lead = lead_of(elements[index - 1].primary());
+    is_short(elements[index].primary(), u16::from(lead))
 }
 
-/// Whether the element at a place can be written by its short primary behind the one before it, with the same lead, where there
+/// Whether the element at an index can be written by its short primary after the one before it, with the same lead, where there
 /// is room.
 #[inline(always)]
 fn goes_on_alike(
     checked: &CheckedTables<'_>,
     elements: &[CollationElement],
-    place: usize,
+    index: usize,
     has_room: bool,
 ) -> bool {
-    is_alike(elements, place) && has_room && checked.tables().reordering.is_none()
+    is_alike(elements, index) && has_room && checked.tables().reordering.is_none()
 }
 
-/// Appends what the element at a place gives behind a run; answers the lead of the run then. Fails only when out of memory.
+/// Appends what the element at an index gives after a run; answers the lead of the run then. Fails only if memory is
+/// refused.
 #[inline(always)]
 fn write_one(
     checked: &CheckedTables<'_>,
     elements: &[CollationElement],
     variable_end: u32,
-    place: usize,
+    index: usize,
     run: Option<u8>,
     key: &mut KeyBytes,
 ) -> Result<Option<u8>, AllocError>
     requires run { IsRun (was_compressible (source_collation checked.now)) run }
-    requires inside { place < length elements.now }
-    ensures { IfOk result (λ now. IsWrittenOn (source_collation checked.now) variable_end elements.now run place key.old.items now (place + 1) key.new.items) }
+    requires inside { index < length elements.now }
+    ensures { IfOk result (λ now. IsWrittenOn (source_collation checked.now) variable_end elements.now run index key.old.items now (index + 1) key.new.items) }
 {
-    let primary = own_primary_at(counted_element(elements[place], variable_end));
+    let primary = own_primary_at(counted_element(elements[index], variable_end));
     let now = write_given(checked, run, primary, key)?;
     Ok(now)
 }
@@ -167,14 +168,14 @@ fn write_one(
 /// Elements whose primaries were written.
 #[derive(Clone, Copy)]
 struct Written {
-    /// The place behind them.
+    /// The index after them.
     behind: usize,
     /// The lead of the run there, if one goes on.
     run: Option<u8>,
 }
 
-/// Appends what the elements from a place on give behind a run: that of the first, and of those behind it up to one that can be
-/// written by a short primary with the lead of the one before it. Fails only when out of memory.
+/// Appends what the elements from an index on give after a run: that of the first, and of those after it up to one that can be
+/// written by a short primary with the lead of the one before it. Fails only if memory is refused.
 #[inline(never)]
 fn write_changing(
     checked: &CheckedTables<'_>,
@@ -190,9 +191,9 @@ fn write_changing(
     ensures level { IfOk result (λ written. IsWrittenOn (source_collation checked.now) variable_end elements.now before from key.old.items written.run written.behind key.new.items) }
 {
     let mut run = before;
-    for place in from..elements.len() {
-        run = write_one(checked, elements, variable_end, place, run, key)?;
-        let behind = place + 1;
+    for index in from..elements.len() {
+        run = write_one(checked, elements, variable_end, index, run, key)?;
+        let behind = index + 1;
         if goes_on_alike(checked, elements, behind, key.has_room()) {
             return Ok(Written { behind, run });
         }
@@ -203,17 +204,17 @@ fn write_changing(
     })
 }
 
-/// The lead byte of the element at a place.
+/// The lead byte of the element at an index.
 #[inline(always)]
-fn lead_at(elements: &[CollationElement], place: usize) -> u8 {
-    match elements.get(place) {
+fn lead_at(elements: &[CollationElement], index: usize) -> u8 {
+    match elements.get(index) {
         Some(element) => lead_of(element.primary()),
         None => 0,
     }
 }
 
-/// Appends the short primaries of the elements from a place on that have the lead of the first, behind no run, where that lead isn't
-/// compressible and no primary is reordered, as long as there is room without memory; answers the place behind them.
+/// Appends the short primaries of the elements from an index on that have the lead of the first, after no run, where that lead isn't
+/// compressible and no primary is reordered, as long as there is room without memory; answers the index after them.
 #[inline(always)]
 fn write_plain(
     checked: &CheckedTables<'_>,
@@ -230,8 +231,8 @@ fn write_plain(
     key.put_short_primaries(elements, variable_end, from, plain, 0)
 }
 
-/// Appends the short primaries of the elements from a place on that have the lead of the run before them, without it, where no
-/// primary is reordered, as long as there is room without memory; answers the place behind them.
+/// Appends the short primaries of the elements from an index on that have the lead of the run before them, without it, where no
+/// primary is reordered, as long as there is room without memory; answers the index after them.
 #[inline(always)]
 fn write_in_run(
     checked: &CheckedTables<'_>,
@@ -255,7 +256,7 @@ fn write_in_run(
     }
 }
 
-/// The same behind any run.
+/// The same after any run.
 #[inline(always)]
 fn write_alike(
     checked: &CheckedTables<'_>,
@@ -275,7 +276,7 @@ fn write_alike(
     }
 }
 
-/// Appends the primary level. Fails only when out of memory.
+/// Appends the primary level. Fails only if memory is refused.
 #[inline(always)]
 pub(super) fn write_primaries(
     checked: &CheckedTables<'_>,
@@ -287,15 +288,15 @@ pub(super) fn write_primaries(
         ++ primary_level (source_collation checked.now) (primaries_by (source_collation checked.now) (counted_list variable_end elements.now))) }
 {
     let mut run: Option<u8> = None;
-    let mut place = 0;
-    'elements: while place < elements.len() {
-        let behind = write_alike(checked, elements, variable_end, place, run, key);
+    let mut index = 0;
+    'elements: while index < elements.len() {
+        let behind = write_alike(checked, elements, variable_end, index, run, key);
         if behind >= elements.len() {
             return Ok(());
         }
         let written = write_changing(checked, elements, variable_end, behind, run, key)?;
         run = written.run;
-        place = written.behind;
+        index = written.behind;
     }
     Ok(())
 }

@@ -25,7 +25,7 @@ fn are_common(ranks: &[u64]) -> bool
 }
 
 /// Appends the quaternary level, given by ranks; common weights alone are written only where something can be shifted.
-/// Fails only when out of memory.
+/// Fails only if memory is refused.
 pub(super) fn write_quaternaries(
     is_shifted: bool,
     ranks: &[u64],
@@ -41,7 +41,7 @@ pub(super) fn write_quaternaries(
     Ok(())
 }
 
-/// Appends the quaternaries that elements give, where something can be shifted. Fails only when out of memory.
+/// Appends the quaternaries that elements give, where something can be shifted. Fails only if memory is refused.
 #[inline(never)]
 pub(super) fn write_given_quaternaries(
     checked: &CheckedTables<'_>,

@@ -41,7 +41,7 @@ pub(super) struct RunBytes {
     pub most: u8,
 }
 
-/// Appends a secondary weight that isn't common, or the end of a segment. Fails only when out of memory.
+/// Appends a secondary weight that isn't common, or the end of a segment. Fails only if memory is refused.
 fn write_secondary(rank: u64, key: &mut KeyBytes) -> Result<(), AllocError>
     requires { rank < 2 ^ 16 + 1 }
     ensures { OnOk result (key.new.items ≡ key.old.items ++ secondary_rank_bytes rank) }
@@ -54,7 +54,7 @@ fn write_secondary(rank: u64, key: &mut KeyBytes) -> Result<(), AllocError>
     Ok(())
 }
 
-/// Appends a tertiary weight, moved up by so much where it is above the common one. Fails only when out of memory.
+/// Appends a tertiary weight, moved up by so much where it is above the common one. Fails only if memory is refused.
 fn write_raised(weight: u32, by: u32, key: &mut KeyBytes) -> Result<(), AllocError>
     requires { weight + by < 2 ^ 16 }
     ensures { OnOk result (key.new.items ≡ key.old.items ++ weight_bytes (cond (ltb 0x500 weight) (weight + by) weight)) }
@@ -67,7 +67,8 @@ fn write_raised(weight: u32, by: u32, key: &mut KeyBytes) -> Result<(), AllocErr
     Ok(())
 }
 
-/// Appends a tertiary weight, moved down where it is below the common one of upper case. Fails only when out of memory.
+/// Appends a tertiary weight, moved down where it is below the common one of upper case. Fails only if memory is
+/// refused.
 fn write_lowered(weight: u32, key: &mut KeyBytes) -> Result<(), AllocError>
     requires { weight < 2 ^ 16 }
     ensures { OnOk result (key.new.items ≡ key.old.items ++ weight_bytes (cond (ltb weight 0xc500) (weight - 0x4000) weight)) }
@@ -80,7 +81,7 @@ fn write_lowered(weight: u32, key: &mut KeyBytes) -> Result<(), AllocError>
     Ok(())
 }
 
-/// Appends a shifted primary. Fails only when out of memory.
+/// Appends a shifted primary. Fails only if memory is refused.
 fn write_shifted(primary: u32, key: &mut KeyBytes) -> Result<(), AllocError>
     ensures { OnOk result (key.new.items ≡ key.old.items ++ shifted_bytes primary) }
 {
@@ -93,7 +94,7 @@ fn write_shifted(primary: u32, key: &mut KeyBytes) -> Result<(), AllocError>
     Ok(())
 }
 
-/// Appends a shifted primary, or a quaternary weight that isn't common. Fails only when out of memory.
+/// Appends a shifted primary, or a quaternary weight that isn't common. Fails only if memory is refused.
 fn write_quaternary(rank: u64, key: &mut KeyBytes) -> Result<(), AllocError>
     requires { rank < 2 ^ 32 + 4 }
     ensures { OnOk result (key.new.items ≡ key.old.items ++ quaternary_rank_bytes rank) }
@@ -145,7 +146,7 @@ impl RunLevel {
         }
     }
 
-    /// Appends a weight that isn't common, given by its rank. Fails only when out of memory.
+    /// Appends a weight that isn't common, given by its rank. Fails only if memory is refused.
     #[inline(never)]
     #[tactic(auto, unfolding(crate::specs::KeyCodes::code_of, crate::specs::KeyCodes::rank_limit))]
     pub(super) fn write_weight(self, rank: u64, key: &mut KeyBytes) -> Result<(), AllocError>

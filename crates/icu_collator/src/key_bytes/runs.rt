@@ -29,7 +29,7 @@ fn last_byte(bytes: RunBytes, is_below_next: bool, rest: u8) -> u8
     }
 }
 
-/// Appends a run of one common weight and so many more. Fails only when out of memory.
+/// Appends a run of one common weight and so many more. Fails only if memory is refused.
 #[inline(always)]
 fn write_filled_run(
     bytes: RunBytes,
@@ -52,8 +52,8 @@ fn write_filled_run(
     Ok(())
 }
 
-/// Appends a run of so many common weights, before a higher weight or before a lower one or the end. Fails only when out
-/// of memory.
+/// Appends a run of so many common weights, before a higher weight or before a lower one or the end. Fails only if
+/// memory is refused.
 #[inline(always)]
 pub(super) fn write_run(
     level: RunLevel,
@@ -70,8 +70,8 @@ pub(super) fn write_run(
     Ok(())
 }
 
-/// Takes one more weight, given by its rank, behind so many common ones that aren't written yet; answers how many aren't
-/// written then. Fails only when out of memory.
+/// Takes one more weight, given by its rank, after so many common ones that aren't written yet; answers how many aren't
+/// written then. Fails only if memory is refused.
 #[inline(always)]
 fn write_next(
     level: RunLevel,
@@ -136,7 +136,7 @@ pub(super) fn write_wide_given(
 }
 
 /// Appends a level of the weights that elements give, by their ranks; a test tells the common weight by a look, or doesn't.
-/// Fails only when out of memory.
+/// Fails only if memory is refused.
 #[inline(always)]
 pub(super) fn write_given_runs<F: Fn(CountedElement) -> Option<u32>, G: Fn(CountedElement) -> bool>(
     level: RunLevel,
@@ -169,7 +169,7 @@ pub(super) fn write_given_runs<F: Fn(CountedElement) -> Option<u32>, G: Fn(Count
     Ok(())
 }
 
-/// Appends a level of weights, given by their ranks. Fails only when out of memory.
+/// Appends a level of weights, given by their ranks. Fails only if memory is refused.
 pub(super) fn write_runs(
     level: RunLevel,
     ranks: &[u32],

@@ -47,7 +47,7 @@ const SOME_ELEMENTS: usize = 240;
 /// How many of a longer one.
 const MANY_ELEMENTS: usize = 512;
 
-/// The decomposed list of a text. Fails only when out of memory.
+/// The decomposed list of a text. Fails only if memory is refused.
 fn listed_characters<T: Characters>(
     alloc: Global,
     checked: &CheckedTables<'_>,
@@ -59,7 +59,8 @@ fn listed_characters<T: Characters>(
     Ok(list)
 }
 
-/// Appends the key of a text of strength `Identical`, given as its elements that count. Fails only when out of memory.
+/// Appends the key of a text of strength `Identical`, given as its elements that count. Fails only if memory is
+/// refused.
 #[inline(never)]
 fn write_exact_key<T: Characters>(
     alloc: Global,
@@ -80,7 +81,7 @@ fn write_exact_key<T: Characters>(
     Ok(())
 }
 
-/// Appends the key of a text, given as its elements that count, to no byte. Fails only when out of memory.
+/// Appends the key of a text, given as its elements that count, to no byte. Fails only if memory is refused.
 #[inline(always)]
 fn write_counted_key<T: Characters>(
     alloc: Global,
@@ -107,7 +108,7 @@ fn write_counted_key<T: Characters>(
     Ok(())
 }
 
-/// The same of all elements of a text, some of which count nowhere. Fails only when out of memory.
+/// The same of all elements of a text, some of which count nowhere. Fails only if memory is refused.
 #[inline(never)]
 fn write_kept_key<T: Characters>(
     alloc: Global,
@@ -130,7 +131,7 @@ fn write_kept_key<T: Characters>(
 }
 
 /// Reads the elements of a text into an empty list, flat or by stretches; `false` where it can't be read so, or the list has no
-/// room, and then what the list has is not said. Fails only when out of memory.
+/// room, and then what the list has is not said. Fails only if memory is refused.
 #[inline(always)]
 fn read_elements<T: Characters, const N: usize>(
     alloc: Global,
@@ -151,7 +152,7 @@ fn read_elements<T: Characters, const N: usize>(
 }
 
 /// Appends the key of a text that is read flat or by stretches, into an empty list with room for it, to no byte; `false` for another
-/// text, and then nothing. Fails only when out of memory.
+/// text, and then nothing. Fails only if memory is refused.
 #[inline(always)]
 fn write_noted_key<T: Characters, const N: usize>(
     alloc: Global,
@@ -262,7 +263,7 @@ fn write_read_key<T: Characters>(
     Ok(is_written)
 }
 
-/// Appends the key of a text of any kind, by its decomposed list, to no byte. Fails only when out of memory.
+/// Appends the key of a text of any kind, by its decomposed list, to no byte. Fails only if memory is refused.
 #[inline(never)]
 fn write_listed_key<T: Characters>(
     alloc: Global,
@@ -288,7 +289,7 @@ fn write_listed_key<T: Characters>(
     Ok(())
 }
 
-/// Appends the key of a text to no byte. Fails only when out of memory.
+/// Appends the key of a text to no byte. Fails only if memory is refused.
 fn write_key_bytes<T: Characters>(
     alloc: Global,
     checked: &CheckedTables<'_>,

@@ -30,7 +30,7 @@ fn last_byte(primary: u32) -> u8
     (primary & 0xff) as u8
 }
 
-/// How many bytes of a primary are written behind its lead: all but those of 00 at the end.
+/// How many bytes of a primary are written after its lead: all but those of 00 at the end.
 #[inline(always)]
 fn count_behind(primary: u32) -> usize
     ensures most { result ≤ 3 }
@@ -48,7 +48,7 @@ fn count_behind(primary: u32) -> usize
     }
 }
 
-/// Appends the bytes of a primary behind its lead, one after another. Fails only when out of memory.
+/// Appends the bytes of a primary after its lead, one after another. Fails only if memory is refused.
 #[inline(never)]
 fn push_primary_rest(primary: u32, key: &mut KeyBytes) -> Result<(), AllocError>
     ensures { OnOk result (key.new.items ≡ key.old.items ++ primary_rest primary) }
@@ -68,7 +68,7 @@ fn push_primary_rest(primary: u32, key: &mut KeyBytes) -> Result<(), AllocError>
     Ok(())
 }
 
-/// Appends the bytes of a primary behind its lead, without those of 00 at the end. Fails only when out of memory.
+/// Appends the bytes of a primary after its lead, without those of 00 at the end. Fails only if memory is refused.
 #[inline(always)]
 pub(super) fn write_primary_rest(primary: u32, key: &mut KeyBytes) -> Result<(), AllocError>
     ensures { OnOk result (key.new.items ≡ key.old.items ++ primary_rest primary) }
@@ -82,7 +82,7 @@ pub(super) fn write_primary_rest(primary: u32, key: &mut KeyBytes) -> Result<(),
     Ok(())
 }
 
-/// Appends the bytes of a primary, one after another. Fails only when out of memory.
+/// Appends the bytes of a primary, one after another. Fails only if memory is refused.
 #[inline(never)]
 fn push_primary_bytes(primary: u32, key: &mut KeyBytes) -> Result<(), AllocError>
     ensures { OnOk result (key.new.items ≡ key.old.items ++ primary_bytes primary) }
@@ -119,7 +119,7 @@ fn put_primary_bytes(primary: u32, key: &mut KeyBytes) -> bool
     key.put(first, second, third, last_byte(primary), count)
 }
 
-/// Appends the bytes of a primary. Fails only when out of memory.
+/// Appends the bytes of a primary. Fails only if memory is refused.
 #[inline(always)]
 pub(super) fn write_primary_bytes(primary: u32, key: &mut KeyBytes) -> Result<(), AllocError>
     ensures { OnOk result (key.new.items ≡ key.old.items ++ primary_bytes primary) }
@@ -131,7 +131,7 @@ pub(super) fn write_primary_bytes(primary: u32, key: &mut KeyBytes) -> Result<()
     Ok(())
 }
 
-/// Appends the bytes of a secondary or tertiary weight. Fails only when out of memory.
+/// Appends the bytes of a secondary or tertiary weight. Fails only if memory is refused.
 pub(super) fn write_weight_bytes(weight: u32, key: &mut KeyBytes) -> Result<(), AllocError>
     requires { weight < 2 ^ 16 }
     ensures { OnOk result (key.new.items ≡ key.old.items ++ weight_bytes weight) }

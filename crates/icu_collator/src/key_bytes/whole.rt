@@ -27,7 +27,7 @@ use icu_collator_types::elements::CollationElement;
 use icu_collator_types::options::{CaseLevel, ResolvedCollatorOptions, Strength};
 use std::alloc::AllocError;
 
-/// Appends the secondary level of tables that count secondaries from the end. Fails only when out of memory.
+/// Appends the secondary level of tables that count secondaries from the end. Fails only if memory is refused.
 #[inline(never)]
 fn add_backward_secondaries(
     checked: &CheckedTables<'_>,
@@ -44,7 +44,7 @@ fn add_backward_secondaries(
     Ok(())
 }
 
-/// Appends the secondary level, where it is in force. Fails only when out of memory.
+/// Appends the secondary level, where it is in force. Fails only if memory is refused.
 #[inline(always)]
 fn add_secondaries(
     checked: &CheckedTables<'_>,
@@ -68,7 +68,7 @@ fn add_secondaries(
     Ok(())
 }
 
-/// Appends the case level. Fails only when out of memory.
+/// Appends the case level. Fails only if memory is refused.
 #[inline(never)]
 fn add_listed_cases(
     options: &ResolvedCollatorOptions,
@@ -85,7 +85,7 @@ fn add_listed_cases(
     Ok(())
 }
 
-/// Appends the case level, where it is in force. Fails only when out of memory.
+/// Appends the case level, where it is in force. Fails only if memory is refused.
 #[inline(always)]
 fn add_cases(
     options: &ResolvedCollatorOptions,
@@ -106,7 +106,7 @@ fn add_cases(
     }
 }
 
-/// Appends the tertiary level, where it is in force. Fails only when out of memory.
+/// Appends the tertiary level, where it is in force. Fails only if memory is refused.
 #[inline(always)]
 fn add_tertiaries(
     options: &ResolvedCollatorOptions,
@@ -125,7 +125,7 @@ fn add_tertiaries(
     Ok(())
 }
 
-/// Appends the quaternary level. Fails only when out of memory.
+/// Appends the quaternary level. Fails only if memory is refused.
 #[inline(never)]
 fn add_listed_quaternaries(
     checked: &CheckedTables<'_>,
@@ -146,7 +146,7 @@ fn add_listed_quaternaries(
     Ok(())
 }
 
-/// Appends the quaternary level, where it is in force. Fails only when out of memory.
+/// Appends the quaternary level, where it is in force. Fails only if memory is refused.
 #[inline(always)]
 fn add_quaternaries(
     checked: &CheckedTables<'_>,
@@ -165,7 +165,7 @@ fn add_quaternaries(
     Ok(())
 }
 
-/// Appends the identical level, where it is in force. Fails only when out of memory.
+/// Appends the identical level, where it is in force. Fails only if memory is refused.
 #[inline(always)]
 fn add_characters(
     options: &ResolvedCollatorOptions,
@@ -182,7 +182,7 @@ fn add_characters(
 }
 
 /// Appends the key of a text's levels, given as the elements that count and, at `Identical`, the decomposed list of its
-/// characters. Fails only when out of memory.
+/// characters. Fails only if memory is refused.
 #[inline(always)]
 fn write_levels(
     checked: &CheckedTables<'_>,

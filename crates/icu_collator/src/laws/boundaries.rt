@@ -43,9 +43,9 @@ pub fn common_front_may_be_skipped()
         → collation_order collation options (x ++ a ∷ b ∷ c ∷ p) (x ++ a ∷ b ∷ c ∷ q) ≡ collation_order collation options (a ∷ b ∷ c ∷ p) (a ∷ b ∷ c ∷ q) }
 {}
 
-/// Let two texts go on with two plain characters behind a common front, whatever that is. Where the elements of the two
+/// Let two texts go on with two plain characters after a common front, whatever that is. Where the elements of the two
 /// count whole and their primaries differ as reordering has them, these decide, at every strength and with every option,
-/// and nothing that stands behind them counts.
+/// and nothing that stands after them counts.
 pub fn plain_characters_decide()
     ensures { (collation : Collation) (options : ResolvedCollatorOptions) (common : List ℕ) (a b : ℕ) (xs ys : List ℕ) (bits other : ℕ)
         → IsDecomposing collation.canonical → All IsScalar (common ++ a ∷ xs) → All IsScalar (common ++ b ∷ ys)
@@ -87,17 +87,17 @@ pub fn first_differences_decide()
         → PartAt a b common None None → collation_order collation options a b ≡ Equal }
 {}
 
-/// Texts compare as what stands from a place on, where that is a place to begin within what they have in common, and
+/// Texts compare as what stands from an index on, where that is a place to begin within what they have in common, and
 /// secondaries aren't read backward.
 pub fn texts_compare_from_a_place()
     ensures { (collation : Collation) (options : ResolvedCollatorOptions) → IsDecomposing collation.canonical
         → (a b : List ℕ) (common : ℕ) → All IsScalar a → All IsScalar b
-        → (place : ℕ) (left right : Option ℕ) → collation.backward ≡ false → PartAt a b common left right
-        → IsPlaceToBegin (IsPassage collation options) (GoesOn collation.canonical collation.weights) a common place
-        → collation_order collation options a b ≡ collation_order collation options (drop place a) (drop place b) }
+        → (index : ℕ) (left right : Option ℕ) → collation.backward ≡ false → PartAt a b common left right
+        → IsPlaceToBegin (IsPassage collation options) (GoesOn collation.canonical collation.weights) a common index
+        → collation_order collation options a b ≡ collation_order collation options (drop index a) (drop index b) }
 {}
 
-/// A starter is a boundary if no recorded text holds it behind its first character, and no prefix is recorded with it.
+/// A starter is a boundary if no recorded text holds it after its first character, and no prefix is recorded with it.
 pub fn safe_starters_are_boundaries()
     ensures { (canonical : Canonical) (weights : Weights) (d : ℕ) → canonical.class d ≡ 0
         → ((prefix : List ℕ) (first : ℕ) (later : List ℕ) (es : List Element) → weights.recorded prefix (first ∷ later) ≡ Some es → Contains later d → ⊥)

@@ -161,7 +161,7 @@ pub fn normalised_units_answer_alike(collator: &CollatorBorrowed<'_>)
 }
 
 /// A text that `split_normalized` split in two, or `split_normalized_utf8` or `split_normalized_utf16` did, of a normaliser
-/// over the same canonical data, has the key of its first part with the NFD or the NFC of the other behind it: the calls say
+/// over the same canonical data, has the key of its first part with the NFD or the NFC of the other after it: the calls say
 /// `IsSplitFor` of what they give.
 pub fn split_texts_have_whole_keys(collator: &CollatorBorrowed<'_>)
     ensures decomposed { (text prefix rest : List ℕ) → IsUtf8 text → IsSplitFor (decomposed_text (canonical_by collator.now)) text prefix rest

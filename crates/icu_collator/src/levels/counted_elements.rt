@@ -27,8 +27,8 @@ pub(crate) enum CountedElement {
     Variable(u32),
 }
 
-/// The place of the last variable group among the four groups of tables.
-fn group_place(group: MaxVariable) -> usize
+/// The index of the last variable group among the four groups of tables.
+fn group_index(group: MaxVariable) -> usize
     ensures { result ≡ group_index group }
 {
     match group {
@@ -57,7 +57,7 @@ fn group_end(checked: &CheckedTables<'_>, group: MaxVariable) -> u32
         .tables()
         .special_primaries
         .last_primaries
-        .get(group_place(group))
+        .get(group_index(group))
     {
         Some(half) => u32::from(half) << 16,
         None => 0,
@@ -71,7 +71,7 @@ pub(crate) fn is_variable(primary: u32, variable_end: u32) -> bool
     SEGMENT_END_PRIMARY < primary && primary < variable_end
 }
 
-/// Whether an element that isn't variable counts nowhere: it stands behind a variable one, and has no primary.
+/// Whether an element that isn't variable counts nowhere: it stands after a variable one, and has no primary.
 fn is_ignored(is_behind: bool, primary: u32) -> bool
     ensures { result ≡ (is_behind && (primary == 0)) }
 {
@@ -116,7 +116,7 @@ pub(crate) fn do_all_count(elements: &[CollationElement], variable_end: u32) -> 
 }
 
 /// The elements that count, where some may be variable. After a variable element, those without a primary count nowhere, up
-/// to the next that has one. Fails only when out of memory.
+/// to the next that has one. Fails only if memory is refused.
 pub(crate) fn kept(
     alloc: Global,
     elements: &[CollationElement],
@@ -140,7 +140,7 @@ pub(crate) fn kept(
     Ok(list)
 }
 
-/// The elements that count: all, where none is variable. Fails only when out of memory.
+/// The elements that count: all, where none is variable. Fails only if memory is refused.
 pub(crate) fn counted(
     alloc: Global,
     elements: SmallVec<CollationElement, 32>,

@@ -19,7 +19,7 @@ use icu_collator_types::options::ResolvedCollatorOptions;
 use smallvec::SmallVec;
 use std::alloc::{AllocError, Global};
 
-/// What elements give, in order. Fails only when out of memory.
+/// What elements give, in order. Fails only if memory is refused.
 fn listed<W: Copy + Default, F: Fn(CountedElement) -> Option<W>>(
     alloc: Global,
     elements: &[CollationElement],
@@ -46,7 +46,7 @@ fn listed<W: Copy + Default, F: Fn(CountedElement) -> Option<W>>(
     Ok(list)
 }
 
-/// The ranks of the secondaries in the order of the text. Fails only when out of memory.
+/// The ranks of the secondaries in the order of the text. Fails only if memory is refused.
 fn forward_ranks(
     alloc: Global,
     elements: &[CollationElement],
@@ -58,7 +58,7 @@ fn forward_ranks(
     Ok(list)
 }
 
-/// The ranks of the secondaries, backward where the tables say so. Fails only when out of memory.
+/// The ranks of the secondaries, backward where the tables say so. Fails only if memory is refused.
 fn secondary_ranks(
     alloc: Global,
     checked: &CheckedTables<'_>,
@@ -77,7 +77,7 @@ fn secondary_ranks(
 }
 
 /// The secondaries, backward where the tables say so, as ranks: 0 for the end of a segment, else one more than the
-/// weight. Fails only when out of memory.
+/// weight. Fails only if memory is refused.
 pub(crate) fn secondaries(
     alloc: Global,
     checked: &CheckedTables<'_>,
@@ -91,7 +91,7 @@ pub(crate) fn secondaries(
     Ok(list)
 }
 
-/// The cases. Fails only when out of memory.
+/// The cases. Fails only if memory is refused.
 pub(crate) fn cases(
     alloc: Global,
     options: &ResolvedCollatorOptions,
@@ -110,7 +110,7 @@ pub(crate) fn cases(
     Ok(list)
 }
 
-/// The ranks at the quaternary level: a shifted primary, or 2^32 and the quaternary. Fails only when out of memory.
+/// The ranks at the quaternary level: a shifted primary, or 2^32 and the quaternary. Fails only if memory is refused.
 pub(crate) fn quaternaries(
     alloc: Global,
     checked: &CheckedTables<'_>,

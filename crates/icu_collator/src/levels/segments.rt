@@ -14,7 +14,7 @@ use std::alloc::{AllocError, Global};
 /// The rank of the end of a segment, below those of all weights.
 const SEGMENT_END_RANK: u32 = 0;
 
-/// Moves the ranks of a segment to the end of a list, the last first. Fails only when out of memory.
+/// Moves the ranks of a segment to the end of a list, the last first. Fails only if memory is refused.
 fn move_reversed(
     segment: &mut SmallVec<u32, 32>,
     list: &mut SmallVec<u32, 32>,
@@ -28,7 +28,7 @@ fn move_reversed(
     Ok(())
 }
 
-/// The ranks of the secondaries, reversed in each segment. Fails only when out of memory.
+/// The ranks of the secondaries, reversed in each segment. Fails only if memory is refused.
 pub(super) fn backward_ranks(
     alloc: Global,
     elements: &[CollationElement],

@@ -11,7 +11,7 @@ use super::counted_elements::{CountedElement, counted_element};
 use icu_collator_types::elements::CollationElement;
 use std::cmp::Ordering;
 
-/// What the elements from a place on give first, and the place behind it.
+/// What the elements from an index on give first, and the index after it.
 #[inline]
 fn next_given<F: Fn(CountedElement) -> Option<u32>>(
     elements: &[CollationElement],
@@ -28,9 +28,9 @@ fn next_given<F: Fn(CountedElement) -> Option<u32>>(
     ensures past { IfSome result (λ next. from < next.1) }
     ensures behind { IfSome result (λ next. next.1 ≤ length elements.now) }
 {
-    for place in from..elements.len() {
-        if let Some(weight) = given(counted_element(elements[place], variable_end)) {
-            return Some((weight, place + 1));
+    for index in from..elements.len() {
+        if let Some(weight) = given(counted_element(elements[index], variable_end)) {
+            return Some((weight, index + 1));
         }
     }
     None
@@ -48,21 +48,21 @@ pub(crate) fn order_given<F: Fn(CountedElement) -> Option<u32>>(
     ensures { (at : Counted → Option ℕ) → ((e : CountedElement) (w : Option ℕ) → F.post given e w → w ≡ at (counted_of e))
         → result ≡ slice_cmp nat_cmp (filter_map at (counted_list left_end left.now)) (filter_map at (counted_list right_end right.now)) }
 {
-    let mut left_place = 0;
-    let mut right_place = 0;
+    let mut left_index = 0;
+    let mut right_index = 0;
     'weights: while let Some((weight, left_behind)) = next_given(
-        left, left_end, left_place, &given,
+        left, left_end, left_index, &given,
     ) {
-        let Some((other, right_behind)) = next_given(right, right_end, right_place, &given) else {
+        let Some((other, right_behind)) = next_given(right, right_end, right_index, &given) else {
             return Ordering::Greater;
         };
         if weight != other {
             return weight.cmp(&other);
         }
-        left_place = left_behind;
-        right_place = right_behind;
+        left_index = left_behind;
+        right_index = right_behind;
     }
-    match next_given(right, right_end, right_place, &given) {
+    match next_given(right, right_end, right_index, &given) {
         Some(_) => Ordering::Less,
         None => Ordering::Equal,
     }

@@ -42,7 +42,7 @@ pub(crate) fn is_unshifted(options: &ResolvedCollatorOptions) -> bool
     }
 }
 
-/// The characters of a decomposed list, at strength `Identical`. Fails only when out of memory.
+/// The characters of a decomposed list, at strength `Identical`. Fails only if memory is refused.
 fn kept_characters(
     alloc: Global,
     strength: Strength,
@@ -58,7 +58,7 @@ fn kept_characters(
     }
 }
 
-/// What is read of a decomposed list. Fails only when out of memory.
+/// What is read of a decomposed list. Fails only if memory is refused.
 fn read_list(
     alloc: Global,
     checked: &CheckedTables<'_>,
@@ -80,7 +80,7 @@ fn read_list(
     })
 }
 
-/// What is read of the text that an iterator gives. Fails only when out of memory.
+/// What is read of the text that an iterator gives. Fails only if memory is refused.
 pub(crate) fn read_text<I: Iterator<Item = char> + Drop>(
     alloc: Global,
     checked: &CheckedTables<'_>,

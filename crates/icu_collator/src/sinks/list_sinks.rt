@@ -1,4 +1,4 @@
-//! Lists as sinks of keys: a key stands behind what a list held.
+//! Lists as sinks of keys: a key stands after what a list held.
 
 ghost use Rattle.std.specs.Prelude.{◌≡◌, ◌++◌, ⊤, drop, length};
 ghost use Rattle.std.proofs.Common.{◌∙◌, ap, sym};

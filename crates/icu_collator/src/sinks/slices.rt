@@ -45,17 +45,17 @@ impl CollationKeySink for &mut [u8] {
     }
 }
 
-/// Writes as many of the bytes as fit behind a place, and answers the place behind all of them.
-fn write_at(slice: &mut [u8], place: usize, bytes: &[u8]) -> usize
-    ensures written { slice.new ≡ written_at slice.old place bytes.now }
-    ensures counted { result ≡ min (place + length bytes.now) greatest_count }
+/// Writes as many of the bytes as fit after an index, and answers the index after all of them.
+fn write_at(slice: &mut [u8], index: usize, bytes: &[u8]) -> usize
+    ensures written { slice.new ≡ written_at slice.old index bytes.now }
+    ensures counted { result ≡ min (index + length bytes.now) greatest_count }
     ensures bounded { length slice.old ≤ greatest_count }
 {
-    if place < slice.len() {
-        let (_, rest) = slice.split_at_mut(place);
+    if index < slice.len() {
+        let (_, rest) = slice.split_at_mut(index);
         write_front(rest, bytes);
     }
-    place.saturating_add(bytes.len())
+    index.saturating_add(bytes.len())
 }
 
 /// Writes as many of the bytes as fit.

@@ -9,7 +9,7 @@ use Rattle.icu_collator_core.proofs.apart.GrowthLemmas.{first_in, first_or_later
 
 -- ---- Beginnings
 
--- whether one is within the room behind another
+-- whether one is within the room after another
 abbrev within : ℕ → ℕ → Bool
 within v room =
     ((v % 2 ^ 24 == 0) && ltb room (2 ^ 24))

@@ -1,4 +1,4 @@
--- What is gathered at the places of lists.
+-- What is gathered at the indices of lists.
 use Rattle.std.proofs.Common.{◌≡◌, ◌↔◌, ℕ, ℤ, ◌^◌, ◌<◌, List, length, get_or, slice_index, refl, sym, ap, ◌∙◌, subst, arith}
 use Rattle.std.specs.Char.{IsScalar}
 use Rattle.std.specs.Prelude.{⊤, fold}
@@ -25,7 +25,7 @@ EntryAt list k word = (entry : Valued) × ((d : Valued) → get_or list k d ≡ 
 abbrev pub HasEntry : List Valued → ℕ → Type 0
 HasEntry list word = (entry : Valued) × Contains list entry × (cast_unsigned w32 entry.1 ≡ word)
 
--- the entry that was read is the one at the place
+-- the entry that was read is the one at the index
 pub entry_read : (list : List Valued) (k : ℕ) (entry : Valued) → k < length list → entry ≡ get_or list k entry
     → (word : ℕ) → (word ≡ cast_unsigned w32 entry.1) ↔ EntryAt list k word
 entry_read list k entry lt e word = (
@@ -55,12 +55,12 @@ no_values pools word broken value v = broken v.2.0
 -- ---- Numbers of lists
 
 -- what the numbers of a list give
-abbrev pub FromPlaces : {X : Type 0} → (ℕ → X → Type 0) → List ℕ → ℕ → X → Type 0
-FromPlaces Gives xs = UpTo (λ k x. Gives (slice_index xs k) x)
+abbrev pub FromIndices : {X : Type 0} → (ℕ → X → Type 0) → List ℕ → ℕ → X → Type 0
+FromIndices Gives xs = UpTo (λ k x. Gives (slice_index xs k) x)
 
 module _ {X : Type 0} (Gives : ℕ → X → Type 0) (xs : List ℕ) (n : ℕ) (many : length xs ≡ n) (x : X) where
-  pub from_all_places : FromPlaces Gives xs n x ↔ ((y : ℕ) × Contains xs y × Gives y x)
-  from_all_places = (
+  pub from_all_indices : FromIndices Gives xs n x ↔ ((y : ℕ) × Contains xs y × Gives y x)
+  from_all_indices = (
     λ w.
         let lt : w.0 < length xs = let l = w.1 in omega (arith, many, l) in
         (slice_index xs w.0, (w.0, lt, get_or_default xs w.0 (slice_index xs w.0) 0 lt), w.2),
@@ -75,9 +75,9 @@ module _ {X : Type 0} (Gives : ℕ → X → Type 0) (xs : List ℕ) (n : ℕ) (
 pub all_codes : (P : ℕ → ℕ → Type 0) → ((c word : ℕ) → P c word → IsScalar c) → (word : ℕ) → UpTo P 0x11_0000 word ↔ ((c : ℕ) × P c word)
 all_codes P scalar word = (λ w. (w.0, w.2), λ h. (h.0, scalar_below h.0 (scalar h.0 word h.1), h.1))
 
-pub from_own_places : (xs : List ℕ) (n : ℕ) → length xs ≡ n → (x : ℕ) → FromPlaces (λ y x. x ≡ y) xs n x ↔ Contains xs x
-from_own_places xs n many x =
-    let told = from_all_places (λ y x. x ≡ y) xs n many x in (
+pub from_own_indices : (xs : List ℕ) (n : ℕ) → length xs ≡ n → (x : ℕ) → FromIndices (λ y x. x ≡ y) xs n x ↔ Contains xs x
+from_own_indices xs n many x =
+    let told = from_all_indices (λ y x. x ≡ y) xs n many x in (
       λ w. let h = told.0 w in subst (λ y. Contains xs y) (sym h.2) h.1,
       λ h. told.1 (x, h, refl),
     )

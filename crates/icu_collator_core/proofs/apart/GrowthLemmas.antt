@@ -24,7 +24,7 @@ module _ {X : Type 0} where
   pub alone_in : (x y : X) → Contains (x ∷ []) y → y ≡ x
   alone_in x y w = ⊎_elim (λ e. sym e) (λ h. absurd (none_in y h)) (first_or_later x y [] w)
 
-  -- what stands at a place within a list
+  -- what stands at an index within a list
   pub item_at : (xs : List X) (k : ℕ) → k < length xs → (x : X) × ((d : X) → get_or xs k d ≡ x)
   item_at [] k lt = absurd (omega (arith, lt))
   item_at (x ∷ xs) zero lt = (x, λ d. refl)
@@ -75,7 +75,7 @@ module _ {X : Type 0} where
   pub listed_same : (P Q : X → Type 0) (xs : List X) → ((x : X) → P x ↔ Q x) → Lists P xs → Lists Q xs
   listed_same P Q xs same l x = (λ w. (same x).0 ((l x).0 w), λ q. (l x).1 ((same x).1 q))
 
-  -- ---- Growth by what stands at the first places, or by what the first numbers give
+  -- ---- Growth by what stands at the first indices, or by what the first numbers give
 
   abbrev pub UpTo : (ℕ → X → Type 0) → ℕ → X → Type 0
   UpTo P i x = (k : ℕ) × (k < i) × P k x

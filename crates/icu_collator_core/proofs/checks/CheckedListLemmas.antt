@@ -1,4 +1,4 @@
--- What stands at places of lists, and tests of all of a part.
+-- What stands at indices of lists, and tests of all of a part.
 use Rattle.std.proofs.Common.{◌≡◌, ℕ, suc, ◌+◌, ◌-◌, ◌<◌, ◌≤◌, Bool, true, ◌&&◌, List, ◌∷◌, length, take, drop, get_or, slice_get, Option, Some, None, ap, ◌∙◌, sym, arith, ⊎_elim}
 use Rattle.std.specs.List.{list_all, slice_index}
 use Rattle.std.specs.Option.{unwrap_or}
@@ -8,16 +8,16 @@ use Rattle.std.proofs.lemmas.List.{drop_more, get_or_past}
 use Rattle.std.proofs.lemmas.Option.{none-some, slice_get_within, slice_get_cases, get_or_from_slice_get}
 use Rattle.icu_normalizer_core.specs.CanonicalWords.{items_at}
 
-past : (list : List ℕ) (place : ℕ) → slice_get list place ≡ None → length list ≤ place
-past list place none =
+past : (list : List ℕ) (index : ℕ) → slice_get list index ≡ None → length list ≤ index
+past list index none =
     ⊎_elim
-    (λ (w : (x : ℕ) × (place < length list) × (slice_get list place ≡ Some x) × (get_or list place x ≡ x)). absurd (none-some w.0 (sym none ∙ w.2)))
-    (λ (w : (length list ≤ place) × (slice_get list place ≡ None)). w.0)
-    (slice_get_cases list place).1
+    (λ (w : (x : ℕ) × (index < length list) × (slice_get list index ≡ Some x) × (get_or list index x ≡ x)). absurd (none-some w.0 (sym none ∙ w.2)))
+    (λ (w : (length list ≤ index) × (slice_get list index ≡ None)). w.0)
+    (slice_get_cases list index).1
 
 -- past the end of a list stands 0
-pub none_index : (list : List ℕ) (place : ℕ) → slice_get list place ≡ None → 0 ≡ slice_index list place
-none_index list place none = sym (get_or_past list place 0 (past list place none))
+pub none_index : (list : List ℕ) (index : ℕ) → slice_get list index ≡ None → 0 ≡ slice_index list index
+none_index list index none = sym (get_or_past list index 0 (past list index none))
 
 -- a value that an option has
 pub word_same : (word : ℕ) (found : Option ℕ) → Some word ≡ found → word ≡ unwrap_or found 0

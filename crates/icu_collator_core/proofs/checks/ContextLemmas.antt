@@ -29,7 +29,7 @@ pub alone_recorded : (entry : TableWord) (c : ℕ)
 unfolding recorded_by
 alone_recorded entry c = sym (other c (elements_of_word entry.pools (lone_word entry.pools entry.word)))
 
--- the record of a text with others behind, by the word that its context has
+-- the record of a text with others after it, by the word that its context has
 pub behind_recorded : (entry : TableWord) (c : ℕ) (ds : List ℕ) → 0 < length ds
     → recorded_by entry c [] ds ≡ option_and_then (elements_of_word entry.pools) (suffix_word entry.pools entry.word ds)
 unfolding recorded_by

@@ -50,10 +50,10 @@ module _ (canonical : Canonical) (entry : TableWord) (c : ℕ) where
       ∙ twice_not (is_starter canonical x) (is_recorded_by entry [] (c ∷ before))
       )
 
-  module _ (place : ℕ) (tagged : IsTrue (has_tag Contraction (unprefixed_word entry.pools entry.word)))
-      (named : place ≡ index_of (unprefixed_word entry.pools entry.word)) where
+  module _ (index : ℕ) (tagged : IsTrue (has_tag Contraction (unprefixed_word entry.pools entry.word)))
+      (named : index ≡ index_of (unprefixed_word entry.pools entry.word)) where
     abbrev units : List ℕ
-    units = trie_of entry.pools.contexts place
+    units = trie_of entry.pools.contexts index
 
     -- the answer to a text has a word with elements
     abbrev Says : List ℕ → Bool

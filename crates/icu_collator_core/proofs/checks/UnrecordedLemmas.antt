@@ -14,7 +14,7 @@ use Rattle.icu_collator_core.specs.TableMeaning.{fallback}
 use Rattle.icu_collator_core.specs.UnrecordedWords.{implicit, records_nothing}
 use Rattle.icu_collator_core.specs.WeightFaults.{is_sound_word}
 use Rattle.icu_collator_core.specs.WordForms.{IsWord, is_fallback, keeps_special}
-use Rattle.icu_collator_core.specs.WordPlaces.{IsInside}
+use Rattle.icu_collator_core.specs.WordIndices.{IsInside}
 use Rattle.icu_collator_core.specs.WordWeights.{HasSoundWords}
 
 -- what holds of both words holds of every word that records nothing
@@ -47,7 +47,7 @@ unrecorded_is_word layer pools c word =
     (kept (special_primary c), inr (inl (inl refl)))
     (λ tailoring. (kept (special_primary c), subst (λ layer. IsWord layer pools fallback) (sym tailoring) (inl refl)))
 
--- ---- Places
+-- ---- Indices
 
 pub unrecorded_is_inside : (layer : Layer) (pools : Pools) (word : ℕ) → IsTrue (records_nothing layer word) → IsInside pools word
 unrecorded_is_inside layer pools word =

@@ -59,7 +59,7 @@ module _ {A : Type 0} (onward : A → ℕ → A) where
   joined a c rest true so_far = so_far ∙ one_more a c (characters_of_units rest)
   joined a c rest false so_far = broken_stays rest
 
-  -- a half with the unit behind it
+  -- a half with the unit after it
   with_next : (a : A) (unit next : ℕ) (rest : List ℕ) (upper : Bool) → is_upper_half unit ≡ upper
       → whole (Read (Whole (onward a (joined_halves unit next))) rest)
       ≡ option_map (fold onward (onward a (joined_halves unit next))) (characters_of_units rest)

@@ -1,4 +1,4 @@
--- The elements of a character with nothing before or behind it: those of its word, or the one that it has by itself.
+-- The elements of a character with nothing before or after it: those of its word, or the one that it has by itself.
 use Rattle.std.proofs.Common.{◌≡◌, ℕ, Bool, true, false, cond, List, [], ◌∷◌, ◌++◌, Option, Some, None, refl, sym, ◌∙◌, ap, arith, append-nil}
 use Rattle.std.proofs.lemmas.Bool.{true≢false}
 use Rattle.std.proofs.lemmas.Bool.Decides.{nat_tests}

@@ -1,4 +1,4 @@
--- The text match at a place of a list, by the word of the character there.
+-- The text match at an index of a list, by the word of the character there.
 use Rattle.std.proofs.Common.{◌≡◌, ℕ, suc, ◌+◌, ◌==◌, true, false, cond, List, [], ◌∷◌, ◌++◌, take, drop, None, refl, sym, ◌∙◌, ap, arith, append_assoc, append-nil, inl, inr}
 use Rattle.std.specs.Option.{is_some, option_and_then}
 use Rattle.std.specs.List.{list_all}
@@ -19,24 +19,24 @@ use Rattle.icu_collator_core.proofs.lookups.OpenTextLemmas.{joining_ends, joinin
 use Rattle.icu_collator_core.proofs.lookups.PlacedLemmas.{characters_placed}
 use Rattle.icu_collator_core.proofs.readings.MovedMarkLemmas.{moved_alike, moved_itself}
 
-pub characters_left : (place : ℕ) (old : List ℕ) → characters_of (drop place (placed old)) ≡ drop place old
-characters_left place old = sym (drop-map (λ p. p.character) place (placed old)) ∙ ap (drop place) (characters_placed [] old)
+pub characters_left : (index : ℕ) (old : List ℕ) → characters_of (drop index (placed old)) ≡ drop index old
+characters_left index old = sym (drop-map (λ p. p.character) index (placed old)) ∙ ap (drop index) (characters_placed [] old)
 
--- the match is what marks join, from behind the longest recorded text
-pub text_match_is : (canonical : Canonical) (weights : Weights) (place n c : ℕ) (old : List ℕ) → drop place old ≡ c ∷ drop (place + 1) old
-    → match_length weights (c ∷ drop (place + 1) old) ≡ n + 1
-    → joining canonical weights (c ∷ take n (drop (place + 1) old)) [] (drop (place + 1 + n) (placed old)) ≡ text_match canonical weights (drop place (placed old))
+-- the match is what marks join, from the end the longest recorded text
+pub text_match_is : (canonical : Canonical) (weights : Weights) (index n c : ℕ) (old : List ℕ) → drop index old ≡ c ∷ drop (index + 1) old
+    → match_length weights (c ∷ drop (index + 1) old) ≡ n + 1
+    → joining canonical weights (c ∷ take n (drop (index + 1) old)) [] (drop (index + 1 + n) (placed old)) ≡ text_match canonical weights (drop index (placed old))
 unfolding text_match
-text_match_is canonical weights place n c old first count =
-    let ps = drop place (placed old) in
+text_match_is canonical weights index n c old first count =
+    let ps = drop index (placed old) in
     let Match : List ℕ → ℕ → Joining = λ list k. joining canonical weights (take k list) [] (drop k ps) in
-    let list = c ∷ drop (place + 1) old in
+    let list = c ∷ drop (index + 1) old in
     let one : match_length weights list ≡ suc n = count ∙ omega arith in
-    let rest : drop (suc n) ps ≡ drop (place + 1 + n) (placed old) = drop-drop (suc n) place (placed old) ∙ ap (λ k. drop k (placed old)) (omega arith) in
+    let rest : drop (suc n) ps ≡ drop (index + 1 + n) (placed old) = drop-drop (suc n) index (placed old) ∙ ap (λ k. drop k (placed old)) (omega arith) in
     sym
-    (ap (λ l. Match l (match_length weights l)) (characters_left place old ∙ first)
+    (ap (λ l. Match l (match_length weights l)) (characters_left index old ∙ first)
     ∙ ap (Match list) one
-    ∙ ap (joining canonical weights (c ∷ take n (drop (place + 1) old)) []) rest)
+    ∙ ap (joining canonical weights (c ∷ take n (drop (index + 1) old)) []) rest)
 
 module _ (canonical : Canonical) (weights : Weights) (entry : TableWord) (c : ℕ) (said : AreSaidBy weights entry c) (alone : has_suffixes entry ≡ false) where
   not_recorded : (m : ℕ) → scalar m ≡ true → is_some (weights.recorded [] (c ∷ m ∷ [])) ≡ false
@@ -70,17 +70,17 @@ module _ (canonical : Canonical) (weights : Weights) (entry : TableWord) (c : �
       ∙ ap (λ b. length_with (cond b (longest_text entry.pools (suffix_units entry) cs) None)) alone
 
   -- a character that begins no longer text is found alone
-  pub found_alone : (place : ℕ) (old : List ℕ) → drop place old ≡ c ∷ drop (place + 1) old → scalars (drop place old) ≡ true
-      → IsFoundAs canonical weights entry.pools c (text_match canonical weights (drop place (placed old))) (record { word = None; next = place + 1 }) old
-  found_alone place old first ok =
-      let cs = drop (place + 1) old in
+  pub found_alone : (index : ℕ) (old : List ℕ) → drop index old ≡ c ∷ drop (index + 1) old → scalars (drop index old) ≡ true
+      → IsFoundAs canonical weights entry.pools c (text_match canonical weights (drop index (placed old))) (record { word = None; next = index + 1 }) old
+  found_alone index old first ok =
+      let cs = drop (index + 1) old in
       let others = (and_parts (scalar c) (scalars cs) (ap scalars (sym first) ∙ ok)).1 in
-      let left = drop (place + 1) (placed old) in
-      let is : text_match canonical weights (drop place (placed old)) ≡ record { text = c ∷ []; left = left } =
-      sym (text_match_is canonical weights place 0 c old first (length_alone cs others))
-      ∙ ap (λ k. joining canonical weights (c ∷ []) [] (drop k (placed old))) {x = place + 1 + 0} {y = place + 1} (omega arith)
-      ∙ joining_alone [] left (ap scalars (characters_left (place + 1) old) ∙ others) in
+      let left = drop (index + 1) (placed old) in
+      let is : text_match canonical weights (drop index (placed old)) ≡ record { text = c ∷ []; left = left } =
+      sym (text_match_is canonical weights index 0 c old first (length_alone cs others))
+      ∙ ap (λ k. joining canonical weights (c ∷ []) [] (drop k (placed old))) {x = index + 1 + 0} {y = index + 1} (omega arith)
+      ∙ joining_alone [] left (ap scalars (characters_left (index + 1) old) ∙ others) in
       rw is (record {
         elements = refl;
-        left = λ known. moved_alike canonical.class weights known (place + 1) old old (moved_itself canonical.class old) refl;
+        left = λ known. moved_alike canonical.class weights known (index + 1) old old (moved_itself canonical.class old) refl;
       })

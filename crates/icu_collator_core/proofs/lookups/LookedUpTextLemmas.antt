@@ -176,22 +176,22 @@ pub read_none : (pools : Pools) (units cs : List ℕ) (cursor : Char16TrieIterat
 unfolding at_greatest text_of_length
 read_none pools units cs cursor e f = record { reads = e; stands = f; found = refl }
 
-pub read_next : (pools : Pools) (units list : List ℕ) (begin place x : ℕ) (cursor after : Char16TrieIterator) (before longer : Option LongerText) (answer : TrieResult)
-    → begin ≤ place → place < length list → x ≡ get_or list place x
-    → HasRead pools units (drop begin list) (place - begin) cursor before → Follows cursor (units_of x) answer after
-    → longer ≡ found_or (option_and_then (text_by pools (place + 1 - begin)) (option_map (cast_unsigned w32) (answered answer))) before
-    → HasRead pools units (drop begin list) (place + 1 - begin) after longer
-read_next pools units list begin place x cursor after before longer answer above inside is h step is_longer =
-    let k = place - begin in
-    let next : place + 1 - begin ≡ k + 1 = omega arith in
-    let back : begin + k ≡ place = omega arith in
+pub read_next : (pools : Pools) (units list : List ℕ) (begin index x : ℕ) (cursor after : Char16TrieIterator) (before longer : Option LongerText) (answer : TrieResult)
+    → begin ≤ index → index < length list → x ≡ get_or list index x
+    → HasRead pools units (drop begin list) (index - begin) cursor before → Follows cursor (units_of x) answer after
+    → longer ≡ found_or (option_and_then (text_by pools (index + 1 - begin)) (option_map (cast_unsigned w32) (answered answer))) before
+    → HasRead pools units (drop begin list) (index + 1 - begin) after longer
+read_next pools units list begin index x cursor after before longer answer above inside is h step is_longer =
+    let k = index - begin in
+    let next : index + 1 - begin ≡ k + 1 = omega arith in
+    let back : begin + k ≡ index = omega arith in
     let less : k < length (drop begin list) = let count = length-drop begin list in omega (arith, count) in
     let here : get_or (drop begin list) k 0 ≡ x =
-    get_or-drop begin list k 0 ∙ ap (λ i. get_or list i 0) back ∙ sym (get_or_read list place x inside is 0) in
+    get_or-drop begin list k 0 ∙ ap (λ i. get_or list i 0) back ∙ sym (get_or_read list index x inside is 0) in
     let now : HasRead pools units (drop begin list) (k + 1) after longer =
     read_more pools units (drop begin list) k x cursor after before longer answer less here h step
     (is_longer ∙ ap (λ n. found_or (option_and_then (text_by pools n) (option_map (cast_unsigned w32) (answered answer))) before) next) in
     subst (λ n. HasRead pools units (drop begin list) n after longer) (sym next) now
 
-pub within_rest : (list : List ℕ) (begin place : ℕ) → begin ≤ place → place < length list → place + 1 - begin ≤ length (drop begin list)
-within_rest list begin place above inside = let count = length-drop begin list in omega (arith, count)
+pub within_rest : (list : List ℕ) (begin index : ℕ) → begin ≤ index → index < length list → index + 1 - begin ≤ length (drop begin list)
+within_rest list begin index above inside = let count = length-drop begin list in omega (arith, count)

@@ -19,7 +19,7 @@ use Rattle.icu_collator_core.specs.Weights.{Weights}
 use Rattle.icu_collator_core.proofs.lookups.OpenTextLemmas.{highest_first, highest_second, joining_joins, joining_stays, record_joined}
 use Rattle.icu_collator_core.proofs.lookups.PrefixLemmas.{scalars_join}
 
--- the first of what is left from a place on
+-- the first of what is left from an index on
 pub first_dropped : (here : List Placed) (i : ℕ) → i < length here
     → (q : Placed) × (drop i here ≡ q ∷ drop (suc i) here) × (slice_index (characters_of here) i ≡ q.character)
 first_dropped [] i less = absurd (omega (arith, less))
@@ -171,7 +171,7 @@ pub length_characters : (rs : List Placed) → length (characters_of rs) ≡ len
 length_characters [] = refl
 length_characters (r ∷ rs) = ap (λ n. suc n) (length_characters rs)
 
--- the mark that is read next, and what stands behind it in its class
+-- the mark that is read next, and what stands after it in its class
 module _ (class : ℕ → ℕ) (k i : ℕ) (here : List Placed) (marks : List ℕ) (is : characters_of here ≡ marks) (inside : i < length marks) (x : ℕ) (read : x ≡ slice_index marks i) where
   within : i < length here
   within = let same = ap length (sym is) ∙ length_characters here in omega (arith, same, inside)

@@ -114,7 +114,7 @@ pub characters_joined : (here behind : List Placed) → characters_of (here ++ b
 characters_joined [] behind = refl
 characters_joined (p ∷ here) behind = ap (λ l. p.character ∷ l) (characters_joined here behind)
 
--- a list whose characters are two lists one behind the other is two lists
+-- a list whose characters are two lists one after the other is two lists
 pub split_characters : (xs ys : List ℕ) (here : List Placed) → characters_of here ≡ xs ++ ys
     → (front : List Placed) × (back : List Placed) × (here ≡ front ++ back) × (characters_of front ≡ xs) × (characters_of back ≡ ys)
 split_characters [] ys here e = ([], here, refl, refl, e)
@@ -180,7 +180,7 @@ one_more_met entry old classes i text x y after inside read suffixed kept met h 
       joined = now.2;
     }
 
--- behind a run no mark joins
+-- after a run no mark joins
 run_ended : (canonical : Canonical) (weights : Weights) (text : List ℕ) (between behind : List Placed) → ends_run canonical.class behind ≡ true
     → joining canonical weights text between behind ≡ record { text = text; left = between ++ behind }
 unfolding joining
@@ -274,32 +274,32 @@ pub scalar_at : (list : List ℕ) (i : ℕ) → i < length list → scalars list
 scalar_at list i inside ok =
     (and_parts (scalar (slice_index list i)) (scalars (drop (i + 1) list)) (ap scalars (sym (drop_more list i 0 inside)) ∙ scalars_behind i list ok)).0
 
-pub class_more : (class : ℕ → ℕ) (k place i : ℕ) (list : List ℕ) → place ≤ i → i < length list → scalars list ≡ true → class (slice_index list i) ≡ k
-    → are_of_class class k (drop place (take i list)) ≡ true → are_of_class class k (drop place (take (i + 1) list)) ≡ true
-class_more class k place i list order inside ok is h =
+pub class_more : (class : ℕ → ℕ) (k index i : ℕ) (list : List ℕ) → index ≤ i → i < length list → scalars list ≡ true → class (slice_index list i) ≡ k
+    → are_of_class class k (drop index (take i list)) ≡ true → are_of_class class k (drop index (take (i + 1) list)) ≡ true
+class_more class k index i list order inside ok is h =
     let x = slice_index list i in
-    let front : place ≤ length (take i list) = let count = length-take-le i list (omega (arith, inside)) in omega (arith, count, order) in
-    ap (are_of_class class k) (ap (drop place) (take_more list i 0 inside) ∙ drop-append-le place (take i list) (x ∷ []) front)
-    ∙ list_all-append (λ c. scalar c && (class c == k)) (drop place (take i list)) (x ∷ [])
+    let front : index ≤ length (take i list) = let count = length-take-le i list (omega (arith, inside)) in omega (arith, count, order) in
+    ap (are_of_class class k) (ap (drop index) (take_more list i 0 inside) ∙ drop-append-le index (take i list) (x ∷ []) front)
+    ∙ list_all-append (λ c. scalar c && (class c == k)) (drop index (take i list)) (x ∷ [])
     ∙ and_from _ _ h (and_from (scalar x && (class x == k)) true (and_from (scalar x) (class x == k) (scalar_at list i inside ok) (eq-eqb (class x) k is)) refl)
 
-pub class_none : (class : ℕ → ℕ) (k place : ℕ) (list : List ℕ) → place ≤ length list → are_of_class class k (drop place (take place list)) ≡ true
-class_none class k place list within =
-    ap (are_of_class class k) (drop_all place (take place list) (let count = length-take-le place list within in omega (arith, count)))
+pub class_none : (class : ℕ → ℕ) (k index : ℕ) (list : List ℕ) → index ≤ length list → are_of_class class k (drop index (take index list)) ≡ true
+class_none class k index list within =
+    ap (are_of_class class k) (drop_all index (take index list) (let count = length-take-le index list within in omega (arith, count)))
 
-pub parts_joined : (place mid next : ℕ) (list : List ℕ) → place ≤ mid → mid ≤ next → next ≤ length list
-    → drop place (take next list) ≡ drop place (take mid list) ++ drop mid (take next list)
-parts_joined place mid next list first second within =
+pub parts_joined : (index mid next : ℕ) (list : List ℕ) → index ≤ mid → mid ≤ next → next ≤ length list
+    → drop index (take next list) ≡ drop index (take mid list) ++ drop mid (take next list)
+parts_joined index mid next list first second within =
     let front : take mid (take next list) ≡ take mid list = take_less mid next list second in
     let count : length (take mid list) ≡ mid = length-take-le mid list (omega (arith, second, within)) in
-    ap (drop place) (sym (take-append-drop mid (take next list)) ∙ ap (λ l. l ++ drop mid (take next list)) front)
-    ∙ drop-append-le place (take mid list) (drop mid (take next list)) (omega (arith, count, first))
+    ap (drop index) (sym (take-append-drop mid (take next list)) ∙ ap (λ l. l ++ drop mid (take next list)) front)
+    ∙ drop-append-le index (take mid list) (drop mid (take next list)) (omega (arith, count, first))
 
-pub gathered_more : (class : ℕ → ℕ) (place end next : ℕ) (list : List ℕ) (classes : List ClassMarks) (x : ClassMarks) → place ≤ end → end ≤ next → next ≤ length list
-    → x.marks.now ≡ drop end (take next list) → marks_left classes ≡ drop place (take end list) → marks_left (classes ++ x ∷ []) ≡ drop place (take next list)
-gathered_more class place end next list classes x first second within is h =
+pub gathered_more : (class : ℕ → ℕ) (index end next : ℕ) (list : List ℕ) (classes : List ClassMarks) (x : ClassMarks) → index ≤ end → end ≤ next → next ≤ length list
+    → x.marks.now ≡ drop end (take next list) → marks_left classes ≡ drop index (take end list) → marks_left (classes ++ x ∷ []) ≡ drop index (take next list)
+gathered_more class index end next list classes x first second within is h =
     flat_map-append (λ m. m.marks.now) classes (x ∷ []) ∙ ap (λ l. marks_left classes ++ l) (append-nil x.marks.now ∙ is)
-    ∙ ap (λ l. l ++ drop end (take next list)) h ∙ sym (parts_joined place end next list first second within)
+    ∙ ap (λ l. l ++ drop end (take next list)) h ∙ sym (parts_joined index end next list first second within)
 
 pub classes_more : (class : ℕ → ℕ) (classes : List ClassMarks) (x : ClassMarks) → are_of_classes class classes ≡ true → is_class_of_marks class x ≡ true
     → are_of_classes class (classes ++ x ∷ []) ≡ true
@@ -314,21 +314,21 @@ ends_at_starter class end list inside is =
 pub ends_at_end : (class : ℕ → ℕ) (end : ℕ) (list : List ℕ) → end ≡ length list → ends_run class (drop end (placed list)) ≡ true
 ends_at_end class end list e = ap (ends_run class) (placed_end end list e)
 
-pub run_some : (class : ℕ → ℕ) (place end : ℕ) (list : List ℕ) → place < length list → not (class (slice_index list place) == 0) ≡ true → place ≤ end
-    → ends_run class (drop end (placed list)) ≡ true → place < end
-run_some class place end list inside mark order ended = elim (cases_eq place end) [
+pub run_some : (class : ℕ → ℕ) (index end : ℕ) (list : List ℕ) → index < length list → not (class (slice_index list index) == 0) ≡ true → index ≤ end
+    → ends_run class (drop end (placed list)) ≡ true → index < end
+run_some class index end list inside mark order ended = elim (cases_eq index end) [
   | inl e ↦
-      let m = slice_index list place in
-      let here : ends_run class (drop place (placed list)) ≡ (class m == 0) =
-      ap (ends_run class) (placed_next place m list (omega (arith, inside)) (drop_more list place 0 inside)) in
+      let m = slice_index list index in
+      let here : ends_run class (drop index (placed list)) ≡ (class m == 0) =
+      ap (ends_run class) (placed_next index m list (omega (arith, inside)) (drop_more list index 0 inside)) in
       let starter : (class m == 0) ≡ true = sym here ∙ ap (λ n. ends_run class (drop n (placed list))) e ∙ ended in
       absurd (false≢true (sym (ap not starter) ∙ mark))
   | inr other ↦ omega (arith, order, other)
 ]
 
-pub part_length : (place end : ℕ) (list cs : List ℕ) → place ≤ end → end ≤ length list → cs ≡ drop place (take end list) → place + length cs ≡ end
-part_length place end list cs order within e =
-    let one = ap length e ∙ length-drop place (take end list) in
+pub part_length : (index end : ℕ) (list cs : List ℕ) → index ≤ end → end ≤ length list → cs ≡ drop index (take end list) → index + length cs ≡ end
+part_length index end list cs order within e =
+    let one = ap length e ∙ length-drop index (take end list) in
     let two = length-take-le end list within in
     omega (arith, one, two, order)
 

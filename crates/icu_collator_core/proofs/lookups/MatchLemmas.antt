@@ -49,7 +49,7 @@ module _ (entry : TableWord) (cs : List ℕ) where
   abbrev units : List ℕ
   units = trie_of entry.pools.contexts (index_of (unprefixed_word entry.pools entry.word))
 
-  -- the text that ends behind so many characters
+  -- the text that ends after so many characters
   abbrev found_at : ℕ → Option LongerText
   found_at n = cond is_contraction (text_of_length entry.pools units cs n) None
 
@@ -119,7 +119,7 @@ match_is entry cs weights c said ok =
 
 -- ---- The text that was found
 
--- a text that stands behind a character, with its word
+-- a text that stands after a character, with its word
 pub record IsFound (entry : TableWord) (cs : List ℕ) (text : LongerText) : Type 0 where
   pub contraction : is_contraction entry cs ≡ true
   pub filled : 0 < text.behind

@@ -62,90 +62,90 @@ module _ (class : ℕ → ℕ) where
       (or_right (b == c) (is_mark b && is_mark c) (and_from (is_mark b) (is_mark c) first.0 second.0))
       (marks_move bs cs (omega (arith, e)) first.1 second.1)
 
-module _ (list : List ℕ) (from place : ℕ) (order : from ≤ place) (inside : place < length list) where
-  -- what stands from the one place up to the other
+module _ (list : List ℕ) (from index : ℕ) (order : from ≤ index) (inside : index < length list) where
+  -- what stands from the one index up to the other
   abbrev between : List ℕ
-  between = drop from (take place list)
+  between = drop from (take index list)
 
   abbrev here : ℕ
-  here = slice_index list place
+  here = slice_index list index
 
-  between_length : length between ≡ place - from
+  between_length : length between ≡ index - from
   between_length =
-      let cut = length-drop from (take place list) in
-      let front = length-take-le place list (omega (arith, inside)) in
+      let cut = length-drop from (take index list) in
+      let front = length-take-le index list (omega (arith, inside)) in
       omega (arith, cut, front)
 
   front_length : length (take from list) ≡ from
   front_length = length-take-le from list (omega (arith, order, inside))
 
-  front_parts : take place list ≡ take from list ++ between
-  front_parts = sym (take-append-drop from (take place list)) ∙ ap (λ l. l ++ between) (take-take from place list order)
+  front_parts : take index list ≡ take from list ++ between
+  front_parts = sym (take-append-drop from (take index list)) ∙ ap (λ l. l ++ between) (take-take from index list order)
 
-  pub list_parts : take from list ++ (between ++ here ∷ []) ++ drop (place + 1) list ≡ list
+  pub list_parts : take from list ++ (between ++ here ∷ []) ++ drop (index + 1) list ≡ list
   list_parts =
-      ap (λ l. l ++ drop (place + 1) list)
-      (sym (append_assoc (take from list) between (here ∷ [])) ∙ ap (λ l. l ++ here ∷ []) (sym front_parts) ∙ sym (take_more list place 0 inside))
-      ∙ take-append-drop (place + 1) list
+      ap (λ l. l ++ drop (index + 1) list)
+      (sym (append_assoc (take from list) between (here ∷ [])) ∙ ap (λ l. l ++ here ∷ []) (sym front_parts) ∙ sym (take_more list index 0 inside))
+      ∙ take-append-drop (index + 1) list
 
-  moved_length : length (take from list ++ here ∷ between) ≡ place + 1
+  moved_length : length (take from list ++ here ∷ between) ≡ index + 1
   moved_length =
       let whole = length-append (take from list) (here ∷ between) in
       let some = between_length in
       let front = front_length in
       omega (arith, whole, some, front, order)
 
-  -- behind the place nothing changes
-  pub brought_rest : drop (place + 1) (brought_forward list from place) ≡ drop (place + 1) list
-  brought_rest = drop_at (take from list ++ here ∷ between) (drop (place + 1) list) (place + 1) moved_length
+  -- after the index nothing changes
+  pub brought_rest : drop (index + 1) (brought_forward list from index) ≡ drop (index + 1) list
+  brought_rest = drop_at (take from list ++ here ∷ between) (drop (index + 1) list) (index + 1) moved_length
 
-  -- what stood between stands one place on
-  pub brought_between : drop (from + 1) (take (place + 1) (brought_forward list from place)) ≡ between
+  -- what stood between stands one index on
+  pub brought_between : drop (from + 1) (take (index + 1) (brought_forward list from index)) ≡ between
   brought_between =
       let one : length (take from list ++ here ∷ []) ≡ from + 1 =
       let count = length-append (take from list) (here ∷ []) in let front = front_length in omega (arith, count, front) in
       ap (drop (from + 1))
-      (take_at (take from list ++ here ∷ between) (drop (place + 1) list) (place + 1) moved_length ∙ sym (append_assoc (take from list) (here ∷ []) between))
+      (take_at (take from list ++ here ∷ between) (drop (index + 1) list) (index + 1) moved_length ∙ sym (append_assoc (take from list) (here ∷ []) between))
       ∙ drop_at (take from list ++ here ∷ []) between (from + 1) one
 
-  pub brought_length : length (brought_forward list from place) ≡ length list
+  pub brought_length : length (brought_forward list from index) ≡ length list
   brought_length =
-      let whole = length-append (take from list ++ here ∷ between) (drop (place + 1) list) in
+      let whole = length-append (take from list ++ here ∷ between) (drop (index + 1) list) in
       let front = moved_length in
-      let rest = length-drop (place + 1) list in
+      let rest = length-drop (index + 1) list in
       omega (arith, whole, front, rest, inside)
 
   -- marks alone change places, where the character is a mark and those before it are
   pub brought_moves : (class : ℕ → ℕ) → list_all (is_mark class) between ≡ true → is_mark class here ≡ true
-      → moves_marks class list (brought_forward list from place) ≡ true
+      → moves_marks class list (brought_forward list from index) ≡ true
   brought_moves class marks mark =
-      let rest = drop (place + 1) list in
+      let rest = drop (index + 1) list in
       let turned : moves_marks class (between ++ here ∷ []) (here ∷ between) ≡ true =
       marks_move class (between ++ here ∷ []) (here ∷ between)
       (let count = length-append between (here ∷ []) in omega (arith, count))
       (list_all-append (is_mark class) between (here ∷ [])
       ∙ and_from (list_all (is_mark class) between) (is_mark class here && true) marks (and_from (is_mark class here) true mark refl))
       (and_from (is_mark class here) (list_all (is_mark class) between) mark marks) in
-      subst (λ l. moves_marks class l (brought_forward list from place) ≡ true) list_parts
+      subst (λ l. moves_marks class l (brought_forward list from index) ≡ true) list_parts
       (moves_append class (take from list ++ (between ++ here ∷ [])) (take from list ++ here ∷ between) rest rest
       (moves_append class (take from list) (take from list) (between ++ here ∷ []) (here ∷ between) (moved_itself class (take from list)) turned)
       (moved_itself class rest))
 
   -- the part that a rotation by one turns
   abbrev part : List ℕ
-  part = take (place + 1 - from) (drop from list)
+  part = take (index + 1 - from) (drop from list)
 
   part_is : part ≡ between ++ here ∷ []
   part_is =
-      let count : from + (place + 1 - from) ≡ place + 1 = omega (arith, order) in
-      let front : from ≤ length (take place list) = let cut = length-take-le place list (omega (arith, inside)) in omega (arith, cut, order) in
-      sym (drop-take from (place + 1 - from) list)
+      let count : from + (index + 1 - from) ≡ index + 1 = omega (arith, order) in
+      let front : from ≤ length (take index list) = let cut = length-take-le index list (omega (arith, inside)) in omega (arith, cut, order) in
+      sym (drop-take from (index + 1 - from) list)
       ∙ ap (λ n. drop from (take n list)) count
-      ∙ ap (drop from) (take_more list place 0 inside)
-      ∙ drop-append-le from (take place list) (here ∷ []) front
+      ∙ ap (drop from) (take_more list index 0 inside)
+      ∙ drop-append-le from (take index list) (here ∷ []) front
 
   pub rotated_is : (turned : List ℕ) → turned ≡ drop (length part - 1) part ++ take (length part - 1) part
-      → put_mid from (place + 1 - from) list turned ≡ brought_forward list from place
+      → put_mid from (index + 1 - from) list turned ≡ brought_forward list from index
   rotated_is turned e =
       let last : length part - 1 ≡ length between =
       let whole = ap length part_is in let count = length-append between (here ∷ []) in omega (arith, whole, count) in
@@ -155,8 +155,8 @@ module _ (list : List ℕ) (from place : ℕ) (order : from ≤ place) (inside :
       ∙ ap (λ l. drop (length between) l ++ take (length between) l) part_is
       ∙ ap (λ l. l ++ take (length between) (between ++ here ∷ [])) (drop_at between (here ∷ []) (length between) refl)
       ∙ ap (λ l. here ∷ l) (take_at between (here ∷ []) (length between) refl) in
-      let behind : drop (place + 1 - from) (drop from list) ≡ drop (place + 1) list =
-      drop-drop (place + 1 - from) from list ∙ ap (λ n. drop n list) (omega (arith, order)) in
-      ap (λ l. take from list ++ (l ++ drop (place + 1 - from) (drop from list))) is
+      let behind : drop (index + 1 - from) (drop from list) ≡ drop (index + 1) list =
+      drop-drop (index + 1 - from) from list ∙ ap (λ n. drop n list) (omega (arith, order)) in
+      ap (λ l. take from list ++ (l ++ drop (index + 1 - from) (drop from list))) is
       ∙ ap (λ l. take from list ++ (here ∷ between ++ l)) behind
-      ∙ sym (append_assoc (take from list) (here ∷ between) (drop (place + 1) list))
+      ∙ sym (append_assoc (take from list) (here ∷ between) (drop (index + 1) list))

@@ -28,17 +28,17 @@ scalars_behind zero cs e = e
 scalars_behind (suc n) [] e = refl
 scalars_behind (suc n) (c ∷ cs) e = scalars_behind n cs (and_parts (scalar c) (scalars cs) e).1
 
--- the character at a place, with what stands before it, and the rest
-pub placed_next : (place m : ℕ) (old : List ℕ) → place ≤ length old → drop place old ≡ m ∷ drop (place + 1) old
-    → drop place (placed old) ≡ record { character = m; before = characters_before old place } ∷ drop (place + 1) (placed old)
+-- the character at an index, with what stands before it, and the rest
+pub placed_next : (index m : ℕ) (old : List ℕ) → index ≤ length old → drop index old ≡ m ∷ drop (index + 1) old
+    → drop index (placed old) ≡ record { character = m; before = characters_before old index } ∷ drop (index + 1) (placed old)
 unfolding placed_behind
-placed_next place m old inside first =
-    let before = characters_before old place in
-    let here : drop place (placed old) ≡ placed_behind before (m ∷ drop (place + 1) old) =
-    placed_drop place old inside ∙ ap (placed_behind before) first in
-    let rest : drop 1 (drop place (placed old)) ≡ placed_behind (take longest_prefix (m ∷ before)) (drop (place + 1) old) = ap (drop 1) here in
+placed_next index m old inside first =
+    let before = characters_before old index in
+    let here : drop index (placed old) ≡ placed_behind before (m ∷ drop (index + 1) old) =
+    placed_drop index old inside ∙ ap (placed_behind before) first in
+    let rest : drop 1 (drop index (placed old)) ≡ placed_behind (take longest_prefix (m ∷ before)) (drop (index + 1) old) = ap (drop 1) here in
     let mark : Placed = record { character = m; before = before } in
-    here ∙ ap (λ ps. mark ∷ ps) (sym rest ∙ drop-drop 1 place (placed old))
+    here ∙ ap (λ ps. mark ∷ ps) (sym rest ∙ drop-drop 1 index (placed old))
 
 -- what is asked of the characters is asked of the list
 pub seen_is : (class : ℕ → ℕ) (k : ℕ) (ps : List Placed) → list_all (λ p. ltb (class p.character) k) ps ≡ list_all (λ c. ltb (class c) k) (characters_of ps)
@@ -98,15 +98,15 @@ record_joined entry c suffix m word suffixed e =
 -- ---- A mark that was read
 
 -- a list of characters stays one
-brought_kept : (list : List ℕ) (from place : ℕ) → place < length list → scalars list ≡ true → scalars (brought_forward list from place) ≡ true
-brought_kept list from place inside ok =
-    let here = slice_index list place in
-    let between = drop from (take place list) in
-    let rest = drop (place + 1) list in
-    let split = and_parts (scalar here) (scalars rest) (ap scalars (sym (drop_more list place 0 inside)) ∙ scalars_behind place list ok) in
+brought_kept : (list : List ℕ) (from index : ℕ) → index < length list → scalars list ≡ true → scalars (brought_forward list from index) ≡ true
+brought_kept list from index inside ok =
+    let here = slice_index list index in
+    let between = drop from (take index list) in
+    let rest = drop (index + 1) list in
+    let split = and_parts (scalar here) (scalars rest) (ap scalars (sym (drop_more list index 0 inside)) ∙ scalars_behind index list ok) in
     scalars_join (take from list ++ here ∷ between) rest
     (scalars_join (take from list) (here ∷ between) (scalars_front from list ok)
-    (and_from (scalar here) (scalars between) split.0 (scalars_behind from (take place list) (scalars_front place list ok))))
+    (and_from (scalar here) (scalars between) split.0 (scalars_behind from (take index list) (scalars_front index list ok))))
     split.1
 
 -- the highest class of two
@@ -124,47 +124,47 @@ highest_second a b k lt =
       | inr e ↦ and_right (ltb a k) (ltb b k && true) (and_left (ltb b k) true e) ∙ sym e
     ]
 
-module _ (class : ℕ → ℕ) (start : ℕ) (old : List ℕ) (place : ℕ) (new : List ℕ) (text : OpenText) (at : HaveMoved class start old place new text) (inside : place < length new) where
+module _ (class : ℕ → ℕ) (start : ℕ) (old : List ℕ) (index : ℕ) (new : List ℕ) (text : OpenText) (at : HaveMoved class start old index new text) (inside : index < length new) where
   abbrev mark : ℕ
-  mark = slice_index new place
+  mark = slice_index new index
 
   abbrev left_between : List ℕ
-  left_between = drop text.next (take place new)
+  left_between = drop text.next (take index new)
 
-  rest_behind : drop (place + 1) new ≡ drop (place + 1) old
-  rest_behind = sym (drop-drop 1 place new) ∙ ap (drop 1) at.rest ∙ drop-drop 1 place old
+  rest_behind : drop (index + 1) new ≡ drop (index + 1) old
+  rest_behind = sym (drop-drop 1 index new) ∙ ap (drop 1) at.rest ∙ drop-drop 1 index old
 
-  pub first_left : drop place old ≡ mark ∷ drop (place + 1) old
-  first_left = sym at.rest ∙ drop_more new place 0 inside ∙ ap (λ l. mark ∷ l) rest_behind
+  pub first_left : drop index old ≡ mark ∷ drop (index + 1) old
+  first_left = sym at.rest ∙ drop_more new index 0 inside ∙ ap (λ l. mark ∷ l) rest_behind
 
-  pub more_between : drop text.next (take (place + 1) new) ≡ left_between ++ mark ∷ []
+  pub more_between : drop text.next (take (index + 1) new) ≡ left_between ++ mark ∷ []
   more_between =
-      let front : text.next ≤ length (take place new) = let cut = length-take-le place new (omega (arith, inside)) in let within = at.within in omega (arith, cut, within) in
-      ap (drop text.next) (take_more new place 0 inside) ∙ drop-append-le text.next (take place new) (mark ∷ []) front
+      let front : text.next ≤ length (take index new) = let cut = length-take-le index new (omega (arith, inside)) in let within = at.within in omega (arith, cut, within) in
+      ap (drop text.next) (take_more new index 0 inside) ∙ drop-append-le text.next (take index new) (mark ∷ []) front
 
   pub moved_joined : (cursor : Char16TrieIterator) (word : Option ℕ) → is_mark class mark ≡ true
-      → HaveMoved class start old (place + 1) (brought_forward new text.next place)
+      → HaveMoved class start old (index + 1) (brought_forward new text.next index)
       (record { cursor = cursor; word = word; next = text.next + 1; highest = text.highest })
   moved_joined cursor word is =
       let begins = at.begins in
       let within = at.within in
-      let count = brought_length new text.next place within inside in
-      let behind = brought_between new text.next place within inside in
+      let count = brought_length new text.next index within inside in
+      let behind = brought_between new text.next index within inside in
       record {
         begins = omega (arith, begins);
         within = omega (arith, within);
         inside = omega (arith, count, inside);
         same_length = count ∙ at.same_length;
-        kept = λ ok. brought_kept new text.next place inside (at.kept ok);
-        moved = moves_then class old new (brought_forward new text.next place) at.moved (brought_moves new text.next place within inside class at.marks is);
-        rest = brought_rest new text.next place within inside ∙ rest_behind;
+        kept = λ ok. brought_kept new text.next index inside (at.kept ok);
+        moved = moves_then class old new (brought_forward new text.next index) at.moved (brought_moves new text.next index within inside class at.marks is);
+        rest = brought_rest new text.next index within inside ∙ rest_behind;
         marks = ap (list_all (is_mark class)) behind ∙ at.marks;
         highest = λ k some. ap (list_all (λ b. ltb (class b) k)) behind ∙ at.highest k some;
       }
 
   pub moved_stays : (cursor : Char16TrieIterator) (word : Option ℕ) (highest : ℕ) → is_mark class mark ≡ true
       → ((k : ℕ) → (ltb text.highest k && (ltb (class mark) k && true)) ≡ ltb highest k)
-      → HaveMoved class start old (place + 1) new (record { cursor = cursor; word = word; next = text.next; highest = highest })
+      → HaveMoved class start old (index + 1) new (record { cursor = cursor; word = word; next = text.next; highest = highest })
   moved_stays cursor word highest is top =
       let begins = at.begins in
       let within = at.within in

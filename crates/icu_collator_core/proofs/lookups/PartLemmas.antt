@@ -9,22 +9,22 @@ use Rattle.std.specs.List.{cons_option}
 use Rattle.std.specs.Option.{option_and_then, option_to_list}
 use Rattle.icu_normalizer_core.specs.CanonicalWords.{items_at}
 
-pub part_more : (xs : List ℕ) (place i : ℕ) → items_at xs place (i + 1) ≡ items_at xs place i ++ option_to_list (slice_get xs (place + i))
-part_more xs place i = by_place (cases_lt (place + i) (length xs))
+pub part_more : (xs : List ℕ) (index i : ℕ) → items_at xs index (i + 1) ≡ items_at xs index i ++ option_to_list (slice_get xs (index + i))
+part_more xs index i = by_index (cases_lt (index + i) (length xs))
   where
-    by_place : (place + i < length xs) ⊎ (length xs ≤ place + i)
-        → items_at xs place (i + 1) ≡ items_at xs place i ++ option_to_list (slice_get xs (place + i))
-    by_place (inl lt) =
-        let inside : i < length (drop place xs) = let count = length-drop place xs in omega (arith, count, lt)
-        in take_more (drop place xs) i 0 inside
-        ∙ ap (λ x. items_at xs place i ++ x ∷ []) (get_or-drop place xs i 0)
-        ∙ ap (λ o. items_at xs place i ++ option_to_list o) (sym (slice_get-get_or xs (place + i) 0 lt))
-    by_place (inr ge) =
-        let few : length (drop place xs) ≤ i = let count = length-drop place xs in omega (arith, count, ge)
-        in take_all (i + 1) (drop place xs) (omega (arith, few))
-        ∙ sym (take_all i (drop place xs) few)
-        ∙ sym (append-nil (items_at xs place i))
-        ∙ ap (λ o. items_at xs place i ++ option_to_list o) (sym (slice_get_past xs (place + i) ge))
+    by_index : (index + i < length xs) ⊎ (length xs ≤ index + i)
+        → items_at xs index (i + 1) ≡ items_at xs index i ++ option_to_list (slice_get xs (index + i))
+    by_index (inl lt) =
+        let inside : i < length (drop index xs) = let count = length-drop index xs in omega (arith, count, lt)
+        in take_more (drop index xs) i 0 inside
+        ∙ ap (λ x. items_at xs index i ++ x ∷ []) (get_or-drop index xs i 0)
+        ∙ ap (λ o. items_at xs index i ++ option_to_list o) (sym (slice_get-get_or xs (index + i) 0 lt))
+    by_index (inr ge) =
+        let few : length (drop index xs) ≤ i = let count = length-drop index xs in omega (arith, count, ge)
+        in take_all (i + 1) (drop index xs) (omega (arith, few))
+        ∙ sym (take_all i (drop index xs) few)
+        ∙ sym (append-nil (items_at xs index i))
+        ∙ ap (λ o. items_at xs index i ++ option_to_list o) (sym (slice_get_past xs (index + i) ge))
 
 module _ {A : Type 0} where
   filtered_one : (f : ℕ → Option A) (o : Option ℕ) → filter_map f (option_to_list o) ≡ option_to_list (option_and_then f o)
@@ -35,19 +35,19 @@ module _ {A : Type 0} where
   mapped_one f None = refl
   mapped_one f (Some x) = refl
 
-  pub filtered_more : (f : ℕ → Option A) (xs : List ℕ) (place i : ℕ)
-      → filter_map f (items_at xs place (i + 1)) ≡ filter_map f (items_at xs place i) ++ option_to_list (option_and_then f (slice_get xs (place + i)))
-  filtered_more f xs place i =
-      ap (filter_map f) (part_more xs place i)
-      ∙ filter_map-append f (items_at xs place i) (option_to_list (slice_get xs (place + i)))
-      ∙ ap (λ l. filter_map f (items_at xs place i) ++ l) (filtered_one f (slice_get xs (place + i)))
+  pub filtered_more : (f : ℕ → Option A) (xs : List ℕ) (index i : ℕ)
+      → filter_map f (items_at xs index (i + 1)) ≡ filter_map f (items_at xs index i) ++ option_to_list (option_and_then f (slice_get xs (index + i)))
+  filtered_more f xs index i =
+      ap (filter_map f) (part_more xs index i)
+      ∙ filter_map-append f (items_at xs index i) (option_to_list (slice_get xs (index + i)))
+      ∙ ap (λ l. filter_map f (items_at xs index i) ++ l) (filtered_one f (slice_get xs (index + i)))
 
-  pub mapped_more : (f : ℕ → A) (xs : List ℕ) (place i : ℕ)
-      → map f (items_at xs place (i + 1)) ≡ map f (items_at xs place i) ++ option_to_list (option_map f (slice_get xs (place + i)))
-  mapped_more f xs place i =
-      ap (map f) (part_more xs place i)
-      ∙ map-append f (items_at xs place i) (option_to_list (slice_get xs (place + i)))
-      ∙ ap (λ l. map f (items_at xs place i) ++ l) (mapped_one f (slice_get xs (place + i)))
+  pub mapped_more : (f : ℕ → A) (xs : List ℕ) (index i : ℕ)
+      → map f (items_at xs index (i + 1)) ≡ map f (items_at xs index i) ++ option_to_list (option_map f (slice_get xs (index + i)))
+  mapped_more f xs index i =
+      ap (map f) (part_more xs index i)
+      ∙ map-append f (items_at xs index i) (option_to_list (slice_get xs (index + i)))
+      ∙ ap (λ l. map f (items_at xs index i) ++ l) (mapped_one f (slice_get xs (index + i)))
 
   -- a list to which one item was added, or none
   pub added_one : (begun seen more before after : List A) (x : A) (o : Option A)

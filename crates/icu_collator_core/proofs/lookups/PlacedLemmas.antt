@@ -1,4 +1,4 @@
--- What is left of a decomposed list from a place on: its characters, and behind what they stand.
+-- What is left of a decomposed list from an index on: its characters, and after what they stand.
 use Rattle.std.proofs.Common.{◌≡◌, ℕ, zero, suc, ◌≤◌, List, [], ◌∷◌, ◌++◌, length, take, drop, reverse, refl, sym, ◌∙◌, ap, arith, append-nil, append_assoc}
 use Rattle.std.proofs.lemmas.List.{length-take, reverse-append, take_all}
 use Rattle.icu_collator_core.specs.Boundaries.{after}

@@ -23,7 +23,7 @@ use Rattle.icu_collator_core.specs.ReadWords.{AreSaidBy}
 use Rattle.icu_collator_core.proofs.lookups.MatchLemmas.{scalars_front}
 use Rattle.icu_collator_core.proofs.lookups.LookedUpTextLemmas.{HasRead, greatest_past, read_more}
 
--- ---- Characters before a place
+-- ---- Characters before an index
 
 pub scalars_join : (xs ys : List ℕ) → scalars xs ≡ true → scalars ys ≡ true → scalars (xs ++ ys) ≡ true
 scalars_join [] ys e f = f
@@ -38,32 +38,32 @@ scalars_back (x ∷ xs) e =
     let split : reverse (x ∷ xs) ≡ reverse xs ++ (x ∷ []) = reverse-append (x ∷ []) xs in
     ap scalars split ∙ scalars_join (reverse xs) (x ∷ []) (scalars_back xs parts.1) (and_from (scalar x) true parts.0 refl)
 
-pub before_count : (list : List ℕ) (place : ℕ) → place ≤ length list → length (characters_before list place) ≡ min longest_prefix place
-before_count list place within =
-    length-take longest_prefix (reverse (take place list))
-    ∙ ap (min longest_prefix) (length-reverse (take place list) ∙ length-take-le place list within)
+pub before_count : (list : List ℕ) (index : ℕ) → index ≤ length list → length (characters_before list index) ≡ min longest_prefix index
+before_count list index within =
+    length-take longest_prefix (reverse (take index list))
+    ∙ ap (min longest_prefix) (length-reverse (take index list) ∙ length-take-le index list within)
 
-pub before_at : (list : List ℕ) (place n x : ℕ) → place ≤ length list → n < place → n < longest_prefix → x ≡ get_or list (place - 1 - n) x
-    → get_or (characters_before list place) n 0 ≡ x
-before_at list place n x within inside few is =
-    let count = length-take-le place list within in
-    let less : n < length (take place list) = omega (arith, count) in
-    let same : length (take place list) - 1 - n ≡ place - 1 - n = omega (arith, count) in
-    get_or-take longest_prefix (reverse (take place list)) n 0 few
-    ∙ get_or-reverse (take place list) n 0 less
-    ∙ ap (λ i. get_or (take place list) i 0) same
-    ∙ get_or-take place list (place - 1 - n) 0 (omega arith)
-    ∙ sym (get_or_read list (place - 1 - n) x (omega arith) is 0)
+pub before_at : (list : List ℕ) (index n x : ℕ) → index ≤ length list → n < index → n < longest_prefix → x ≡ get_or list (index - 1 - n) x
+    → get_or (characters_before list index) n 0 ≡ x
+before_at list index n x within inside few is =
+    let count = length-take-le index list within in
+    let less : n < length (take index list) = omega (arith, count) in
+    let same : length (take index list) - 1 - n ≡ index - 1 - n = omega (arith, count) in
+    get_or-take longest_prefix (reverse (take index list)) n 0 few
+    ∙ get_or-reverse (take index list) n 0 less
+    ∙ ap (λ i. get_or (take index list) i 0) same
+    ∙ get_or-take index list (index - 1 - n) 0 (omega arith)
+    ∙ sym (get_or_read list (index - 1 - n) x (omega arith) is 0)
 
-pub read_back : (pools : Pools) (units list : List ℕ) (place n x : ℕ) (cursor after : Char16TrieIterator) (before longer : Option LongerText) (answer : TrieResult)
-    → place ≤ length list → n < min place longest_prefix → x ≡ get_or list (place - 1 - n) x
-    → HasRead pools units (characters_before list place) n cursor before → Follows cursor (units_of x) answer after
+pub read_back : (pools : Pools) (units list : List ℕ) (index n x : ℕ) (cursor after : Char16TrieIterator) (before longer : Option LongerText) (answer : TrieResult)
+    → index ≤ length list → n < min index longest_prefix → x ≡ get_or list (index - 1 - n) x
+    → HasRead pools units (characters_before list index) n cursor before → Follows cursor (units_of x) answer after
     → longer ≡ found_or (option_and_then (text_by pools (n + 1)) (option_map (cast_unsigned w32) (answered answer))) before
-    → HasRead pools units (characters_before list place) (n + 1) after longer
-read_back pools units list place n x cursor after before longer answer within inside is h step is_longer =
-    let count = before_count list place within in
-    read_more pools units (characters_before list place) n x cursor after before longer answer
-    (omega (arith, count)) (before_at list place n x within (omega arith) (omega arith) is) h step is_longer
+    → HasRead pools units (characters_before list index) (n + 1) after longer
+read_back pools units list index n x cursor after before longer answer within inside is h step is_longer =
+    let count = before_count list index within in
+    read_more pools units (characters_before list index) n x cursor after before longer answer
+    (omega (arith, count)) (before_at list index n x within (omega arith) (omega arith) is) h step is_longer
 
 -- ---- Matches
 
@@ -90,7 +90,7 @@ greatest_given {A} {B} f h g (suc m) same some =
         ap (λ o. elim o as (λ _. Option B) [ Some y ↦ Some y | None ↦ at_greatest f m ]) (same (suc m) (omega arith) ∙ ap (option_and_then g) e)
         ∙ before
 
--- the record of a character behind others
+-- the record of a character after others
 pub recorded_before : (entry : TableWord) (c : ℕ) (before : List ℕ) → 0 < length before
     → recorded_by entry c (reverse before) []
     ≡ option_and_then (elements_of_word entry.pools) (cond (has_tag Prefix entry.word) (word_by (trie_of entry.pools.contexts (index_of entry.word)) before) None)
@@ -150,8 +150,8 @@ module _ (entry : TableWord) (before : List ℕ) where
           ap (λ (u : LongerText). is_some (elements_of_word entry.pools u.word)) (sym w.1) ∙ w.0
 
   module _ (weights : Weights) (c : ℕ) (said : AreSaidBy weights entry c) (ok : scalars before ≡ true) where
-    abbrev place_of : Placed
-    place_of = record { character = c; before = before }
+    abbrev slot_of : Placed
+    slot_of = record { character = c; before = before }
 
     abbrev elements_at : Option LongerText → Option (List Element)
     elements_at o = option_and_then (λ t. elements_of_word entry.pools t.word) o
@@ -160,7 +160,7 @@ module _ (entry : TableWord) (before : List ℕ) where
     unfolding text_of_length
     nothing_before = elim is_prefixed as (λ b. elements_at (cond b None None) ≡ None) [ true ↦ refl | false ↦ refl ]
 
-    at_some : (n : ℕ) → 0 < n → n ≤ length before → behind_prefix weights place_of n ≡ elements_at (prefix_at n)
+    at_some : (n : ℕ) → 0 < n → n ≤ length before → behind_prefix weights slot_of n ≡ elements_at (prefix_at n)
     unfolding text_of_length
     at_some n above within =
         let filled : 0 < length (take n before) = let count = length-take-le n before within in omega (arith, count) in
@@ -175,15 +175,15 @@ module _ (entry : TableWord) (before : List ℕ) where
           | false ↦ refl
         ])
 
-    at_each : (n : ℕ) → n ≤ length before → behind_prefix weights place_of n ≡ elements_at (prefix_at n)
+    at_each : (n : ℕ) → n ≤ length before → behind_prefix weights slot_of n ≡ elements_at (prefix_at n)
     at_each zero within = sym nothing_before
     at_each (suc n) within = at_some (suc n) (omega arith) within
 
-    past_all : (n : ℕ) → length before < n → behind_prefix weights place_of n ≡ None
+    past_all : (n : ℕ) → length before < n → behind_prefix weights slot_of n ≡ None
     past_all n past = ap (λ b. cond b (weights.recorded (reverse (take n before)) (c ∷ [])) None) (and_right (ltb 0 n) (leb n (length before)) (lt-leb n (length before) past))
 
-    pub prefix_is : length before ≤ longest_prefix → prefix_match weights place_of ≡ elements_at (prefixed_by entry before)
+    pub prefix_is : length before ≤ longest_prefix → prefix_match weights slot_of ≡ elements_at (prefixed_by entry before)
     prefix_is few =
-        greatest_past (behind_prefix weights place_of) (length before) longest_prefix few (λ n past _. past_all n past)
-        ∙ greatest_given (behind_prefix weights place_of) prefix_at (λ t. elements_of_word entry.pools t.word) (length before) at_each some_elements
+        greatest_past (behind_prefix weights slot_of) (length before) longest_prefix few (λ n past _. past_all n past)
+        ∙ greatest_given (behind_prefix weights slot_of) prefix_at (λ t. elements_of_word entry.pools t.word) (length before) at_each some_elements
         ∙ ap elements_at (sym prefixed_is)

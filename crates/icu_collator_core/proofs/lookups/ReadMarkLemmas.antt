@@ -19,34 +19,34 @@ use Rattle.icu_collator_core.proofs.lookups.MovedLemmas.{brought_between}
 use Rattle.icu_collator_core.proofs.lookups.OpenTextLemmas.{first_left, joining_joins, joining_stays, more_between, placed_next, record_joined, scalars_behind, seen_is}
 use Rattle.icu_collator_core.proofs.lookups.PrefixLemmas.{scalars_join}
 
-module _ (canonical : Canonical) (weights : Weights) (entry : TableWord) (c : ℕ) (suffix : List ℕ) (start : ℕ) (old : List ℕ) (place : ℕ) (new : List ℕ) (text : OpenText)
-    (said : AreSaidBy weights entry c) (ok : scalars (drop start old) ≡ true) (at : HaveMoved canonical.class start old place new text)
-    (h : HasJoined canonical weights entry c suffix start old place new text) (inside : place < length new) (is : 0 < canonical.class (slice_index new place)) where
+module _ (canonical : Canonical) (weights : Weights) (entry : TableWord) (c : ℕ) (suffix : List ℕ) (start : ℕ) (old : List ℕ) (index : ℕ) (new : List ℕ) (text : OpenText)
+    (said : AreSaidBy weights entry c) (ok : scalars (drop start old) ≡ true) (at : HaveMoved canonical.class start old index new text)
+    (h : HasJoined canonical weights entry c suffix start old index new text) (inside : index < length new) (is : 0 < canonical.class (slice_index new index)) where
   abbrev mark : ℕ
-  mark = slice_index new place
+  mark = slice_index new index
 
   abbrev longer : List ℕ
   longer = h.joined ++ mark ∷ []
 
   abbrev placed_mark : Placed
-  placed_mark = record { character = mark; before = characters_before old place }
+  placed_mark = record { character = mark; before = characters_before old index }
 
-  next_left : drop place old ≡ mark ∷ drop (place + 1) old
-  next_left = first_left canonical.class start old place new text at inside
+  next_left : drop index old ≡ mark ∷ drop (index + 1) old
+  next_left = first_left canonical.class start old index new text at inside
 
-  next_is : drop place (placed old) ≡ placed_mark ∷ drop (place + 1) (placed old)
+  next_is : drop index (placed old) ≡ placed_mark ∷ drop (index + 1) (placed old)
   next_is =
-      let within : place ≤ length old = let same = at.same_length in omega (arith, same, inside) in
-      placed_next place mark old within next_left
+      let within : index ≤ length old = let same = at.same_length in omega (arith, same, inside) in
+      placed_next index mark old within next_left
 
   spelled_more : scalars longer ≡ true
   spelled_more =
       let begins = at.begins in
       let below = at.within in
-      let sum : start + (place - start) ≡ place = omega (arith, begins, below) in
-      let left : drop (place - start) (drop start old) ≡ mark ∷ drop (place + 1) old =
-      drop-drop (place - start) start old ∙ ap (λ n. drop n old) sum ∙ next_left in
-      let parts = and_parts (scalar mark) (scalars (drop (place + 1) old)) (ap scalars (sym left) ∙ scalars_behind (place - start) (drop start old) ok) in
+      let sum : start + (index - start) ≡ index = omega (arith, begins, below) in
+      let left : drop (index - start) (drop start old) ≡ mark ∷ drop (index + 1) old =
+      drop-drop (index - start) start old ∙ ap (λ n. drop n old) sum ∙ next_left in
+      let parts = and_parts (scalar mark) (scalars (drop (index + 1) old)) (ap scalars (sym left) ∙ scalars_behind (index - start) (drop start old) ok) in
       scalars_join h.joined (mark ∷ []) h.spelled (and_from (scalar mark) true parts.0 refl)
 
   pub recorded_more : weights.recorded [] (c ∷ longer) ≡ recorded_by entry c [] longer
@@ -65,7 +65,7 @@ module _ (canonical : Canonical) (weights : Weights) (entry : TableWord) (c : �
   pub joined_more : (cursor : Char16TrieIterator) (word : ℕ) → has_suffixes entry ≡ true → text.highest < canonical.class mark
       → IsAtText (suffix_units entry) longer cursor
       → Some word ≡ if_recorded entry.pools (word_by (suffix_units entry) longer) → is_some (recorded_by entry c [] longer) ≡ true
-      → HasJoined canonical weights entry c suffix start old (place + 1) (brought_forward new text.next place)
+      → HasJoined canonical weights entry c suffix start old (index + 1) (brought_forward new text.next index)
       (record { cursor = cursor; word = Some word; next = text.next + 1; highest = text.highest })
   joined_more cursor word suffixed above stands word_is recorded =
       let joins = and_from (list_all (λ b. ltb (canonical.class b.character) (canonical.class mark)) h.between) (is_some (weights.recorded [] (c ∷ longer)))
@@ -76,16 +76,16 @@ module _ (canonical : Canonical) (weights : Weights) (entry : TableWord) (c : �
         stands = stands;
         spelled = spelled_more;
         said = recorded_more ∙ record_joined entry c h.joined mark word suffixed word_is;
-        left = h.left ∙ sym (brought_between new text.next place at.within inside);
+        left = h.left ∙ sym (brought_between new text.next index at.within inside);
         same =
             sym (ap (joining canonical weights (c ∷ h.joined) h.between) next_is
-            ∙ joining_joins canonical weights (c ∷ h.joined) h.between placed_mark (drop (place + 1) (placed old)) not_starter joins)
+            ∙ joining_joins canonical weights (c ∷ h.joined) h.between placed_mark (drop (index + 1) (placed old)) not_starter joins)
             ∙ h.same;
       }
 
   pub joined_stays : (cursor : Char16TrieIterator) (highest : ℕ) → IsAtText (suffix_units entry) h.joined cursor
       → (ltb text.highest (canonical.class mark) && is_some (recorded_by entry c [] longer)) ≡ false
-      → HasJoined canonical weights entry c suffix start old (place + 1) new
+      → HasJoined canonical weights entry c suffix start old (index + 1) new
       (record { cursor = cursor; word = text.word; next = text.next; highest = highest })
   joined_stays cursor highest stands stays =
       let kept : (list_all (λ b. ltb (canonical.class b.character) (canonical.class mark)) h.between && is_some (weights.recorded [] (c ∷ longer))) ≡ false =
@@ -98,9 +98,9 @@ module _ (canonical : Canonical) (weights : Weights) (entry : TableWord) (c : �
         said = h.said;
         left =
             map-append (λ p. p.character) h.between (placed_mark ∷ []) ∙ ap (λ l. l ++ mark ∷ []) h.left
-            ∙ sym (more_between canonical.class start old place new text at inside);
+            ∙ sym (more_between canonical.class start old index new text at inside);
         same =
             sym (ap (joining canonical weights (c ∷ h.joined) h.between) next_is
-            ∙ joining_stays canonical weights (c ∷ h.joined) h.between placed_mark (drop (place + 1) (placed old)) not_starter kept)
+            ∙ joining_stays canonical weights (c ∷ h.joined) h.between placed_mark (drop (index + 1) (placed old)) not_starter kept)
             ∙ h.same;
       }

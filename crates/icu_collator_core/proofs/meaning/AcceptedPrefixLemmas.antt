@@ -28,7 +28,7 @@ use Rattle.icu_collator_core.proofs.meaning.StatedWordLemmas.{jamo_unprefixed}
 use Rattle.icu_collator_core.proofs.meaning.WordTagLemmas.{no_tag}
 use Rattle.icu_collator_core.proofs.readings.MovedMarkLemmas.{list_all-reverse}
 
--- what a word says of a character behind others, it says of a starter behind starters
+-- what a word says of a character after others, it says of a starter after starters
 abbrev KnowsNoMarks : Canonical → ℕ → TableWord → Type 0
 KnowsNoMarks canonical c entry =
     (b : ℕ) (bs : List ℕ) (es : List Element) → scalars (b ∷ bs) ≡ true → recorded_by entry c (b ∷ bs) [] ≡ Some es
@@ -42,7 +42,7 @@ unfolding recorded_by
 prefixed_by_word entry c b bs es h =
     option_and_then_some (elements_of_word entry.pools) (prefix_word entry.pools entry.word (b ∷ bs)) es h (λ one found told. (one, found))
 
--- a word with no prefixes says nothing of a character behind others
+-- a word with no prefixes says nothing of a character after others
 unprefixed_knows : (canonical : Canonical) (c : ℕ) (entry : TableWord) → has_tag Prefix entry.word ≡ false → KnowsNoMarks canonical c entry
 unfolding prefix_word
 unprefixed_knows canonical c entry none b bs es s h =
@@ -98,7 +98,7 @@ module _ (canonical : Canonical) (tables : CollationTables) (accepted : IsAccept
       in let known = counting_knows c (and_parts (scalar c) (scalars []) characters.1).0 b bs some.0 characters.0 both.1
       in (eqb-true (canonical.class c) 0 known.0, known.1)
 
-  -- accepted tables record no mark in a prefix, and none behind one
+  -- accepted tables record no mark in a prefix, and none after one
   pub accepted_tables_know_no_marks_before : KnowNoMarksBefore canonical.class (weights_of canonical tables)
   accepted_tables_know_no_marks_before = record { at = known_at }
 

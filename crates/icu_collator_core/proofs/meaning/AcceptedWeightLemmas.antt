@@ -21,9 +21,9 @@ use Rattle.icu_collator_core.proofs.meaning.GoodWordLemmas.{IsGoodRanged, IsGood
 use Rattle.icu_collator_core.proofs.meaning.StatedWordLemmas.{jamo_good, mark_good}
 use Rattle.icu_collator_core.proofs.meaning.WordElementLemmas.{spelled_sound, widths}
 
--- what a list has at a place
-at_place : (xs : List ℕ) (k x : ℕ) → slice_get xs k ≡ Some x → Contains xs x
-at_place xs k x h = (k, slice_get_within xs k x h, get_or_from_slice_get xs k x x h)
+-- what a list has at an index
+at_index : (xs : List ℕ) (k x : ℕ) → slice_get xs k ≡ Some x → Contains xs x
+at_index xs k x h = (k, slice_get_within xs k x h, get_or_from_slice_get xs k x x h)
 
 of_some : (o : Option CollationData) (source : CollationData) (P : CollationData → Type 0) → o ≡ Some source → P source → MatchOption o ⊥ P
 of_some o source P e h = subst (λ o. MatchOption o ⊥ P) (sym e) h
@@ -50,7 +50,7 @@ module _ (canonical : Canonical) (tables : CollationTables) (accepted : IsAccept
   marked : (c s : ℕ) → diacritic canonical tables.diacritics.secondaries c ≡ Some s → Keeps c (mark_word tables s)
   marked c s h =
       mark_good tables c s (and_parts (is_diacritic_count tables.metadata _) (list_all is_sound_diacritic tables.diacritics.secondaries) accepted.diacritics).1
-      (at_place tables.diacritics.secondaries (c - 0x300) s (asked (leb 0x300 c && not (is_starter canonical c)) _ s h).1)
+      (at_index tables.diacritics.secondaries (c - 0x300) s (asked (leb 0x300 c && not (is_starter canonical c)) _ s h).1)
 
   counting_keeps : (c : ℕ) → IsScalar c → Keeps c (counting_word canonical tables c)
   counting_keeps c scalar =

@@ -95,7 +95,7 @@ module _ (special : CollationSpecialPrimaries) where
   own_alone p (e ∷ []) = refl
   own_alone p (e ∷ f ∷ es) = refl
 
-  -- and where nothing stands before or behind, unless they are the character's own
+  -- and where nothing stands before or after, unless they are the character's own
   pub lone_sound : (p : ℕ) (es : List Element) → are_sound_spelled special (Some p) es ≡ true → is_primary_alone p es ≡ false
       → list_all (is_sound_spelled special) es ≡ true
   lone_sound p es h other =

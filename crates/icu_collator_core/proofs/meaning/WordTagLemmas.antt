@@ -1,4 +1,4 @@
--- What forms words can have at once: a word has one tag, and what states an element has none that names a place.
+-- What forms words can have at once: a word has one tag, and what states an element has none that names an index.
 use Rattle.std.proofs.Common.{◌≡◌, ◌≢◌, ℕ, ◌%◌, ◌/◌, ◌*◌, ◌^◌, ◌<◌, ◌⊎◌, inl, inr, Bool, true, false, cond, List, [], ◌∷◌, Option, Some, None, refl, ap, sym, ◌∙◌, arith, ⊎_elim}
 use Rattle.std.specs.Prelude.{◌==◌, ◌||◌, not, leb, slice_index}
 use Rattle.std.specs.Option.{option_map}
@@ -61,7 +61,7 @@ stated_elements pools word e h =
         at true is k = absurd (none-some e k)
         at false is k = is
 
--- a word that states an element says the same where nothing stands before or behind
+-- a word that states an element says the same where nothing stands before or after
 pub lone_same : (pools : Pools) (word : ℕ) → has_tag Prefix word ≡ false → has_tag Contraction word ≡ false → has_tag Digit word ≡ false
     → lone_word pools word ≡ word
 unfolding lone_word unprefixed_word

@@ -1,4 +1,4 @@
--- A number in parts: what is left of it behind a part, and that its digits stay digits.
+-- A number in parts: what is left of it after a part, and that its digits stay digits.
 use Rattle.std.proofs.Common.{◌≡◌, ℕ, zero, suc, ◌<◌, ◌≤◌, min, true, ◌≢◌, cond, ◌==◌, leb, List, [], ◌∷◌, ◌++◌, length, take, drop, get_or, refl, sym, ap, ◌∙◌, arith, append-nil, append_assoc, length-drop}
 use Rattle.std.proofs.lemmas.Bool.{cond_both, and_parts, eqb-true}
 use Rattle.std.proofs.lemmas.List.{drop_min, length-take-le, take_min}
@@ -36,7 +36,7 @@ drop_below limit zero xs h = h
 drop_below limit (suc n) [] h = tt
 drop_below limit (suc n) (x ∷ xs) h = drop_below limit n xs h.1
 
--- the digits of a part, and those behind it
+-- the digits of a part, and those after it
 pub part_values : (n : ℕ) (ds : List ℕ) → AreDigitValues ds → AreDigitValues (take n (significant ds))
 part_values n ds h =
     values_from_digits (take n (significant ds)) (take_below 10 n (significant ds) (significant_digits ds (digits_from_values ds h)))

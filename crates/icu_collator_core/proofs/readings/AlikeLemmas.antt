@@ -192,7 +192,7 @@ none_either_way : {A : Type 0} (b : Bool) (o : Option A) → o ≡ None → cond
 none_either_way true o e = e
 none_either_way false o e = refl
 
--- behind other characters there is the same record: the prefixes are the same, or neither is recorded
+-- after other characters there is the same record: the prefixes are the same, or neither is recorded
 pub behind_alike : (weights : Weights) (c n : ℕ) (xs ys : List ℕ)
     → ((take n xs ≡ take n ys) × (leb n (length xs) ≡ leb n (length ys)))
     ⊎ ((weights.recorded (reverse (take n xs)) (c ∷ []) ≡ None) × (weights.recorded (reverse (take n ys)) (c ∷ []) ≡ None))

@@ -70,7 +70,7 @@ module _ (canonical : Canonical) (weights : Weights) (numeric : Option ℕ) wher
       ap (λ (r : Reading). r.elements ++ elements_within n canonical led (is_some numeric) r.left) (reading_led p ps h.0)
       ∙ ap (λ (es : List Element). first.elements ++ es) (within_led n first.left left)
 
--- ---- characters with which no prefix is recorded are read alike behind any
+-- ---- characters with which no prefix is recorded are read alike after any
 
 steady_alike : (weights : Weights) (xs ys list : List ℕ) → AllByRecursion (IsUnprefixed weights) list
     → scalars xs ≡ true → scalars ys ≡ true → scalars list ≡ true → AreAlike weights (placed_behind xs list) (placed_behind ys list)
@@ -113,7 +113,7 @@ module _ (source : CollationSource) (numeric : Option ℕ) where
       ∙ ap (λ (es : List Element). elements_within (length list) canonical weights counts ps ++ es)
       (any_count canonical weights counts n (length (d ∷ ds)) (q ∷ qs) (omega (arith, rest, count)) (omega (arith, rest)))
 
--- ---- characters that are by themselves as they are behind any, before a boundary
+-- ---- characters that are by themselves as they are after any, before a boundary
 
 module _ (source : CollationSource) (numeric : Option ℕ) (list items : List ℕ) (ok : scalars list ≡ true)
     (itself : (before : List ℕ) → scalars before ≡ true → elements_behind source numeric before list ≡ unpacked items) where

@@ -43,7 +43,7 @@ module _ (class : ℕ → ℕ) where
   pub none_appended : (list : List ℕ) (ready : ℕ) → HasMarksFrom class list ready → Appends class list ready [] list ready
   none_appended list ready h = record { at = λ rest. refl; marks_from = h; characters = λ ok. ok }
 
-  -- what was appended, and then what was appended behind it
+  -- what was appended, and then what was appended after it
   pub both_appended : (a : List ℕ) (i : ℕ) (xs b : List ℕ) (j : ℕ) (ys c : List ℕ) (k : ℕ) → Appends class a i xs b j → Appends class b j ys c k → Appends class a i (xs ++ ys) c k
   both_appended a i xs b j ys c k first second =
       record {

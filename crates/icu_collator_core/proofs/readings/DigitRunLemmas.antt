@@ -62,66 +62,66 @@ leading_values digit (c ∷ cs) low = by_digit (digit c) refl (leading_values di
     by_digit (Some d) e h = and_from (leb d 9) (list_all (λ d. leb d 9) (leading_digits digit cs)) (le-leb d 9 (low c d e)) h
     by_digit None e h = refl
 
--- ---- At a place of a list
+-- ---- At an index of a list
 
-module _ (digit : ℕ → Option ℕ) (list : List ℕ) (place : ℕ) where
+module _ (digit : ℕ → Option ℕ) (list : List ℕ) (index : ℕ) where
   -- there is one where a digit stands
-  pub some_lead : place < length list → is_some (digit (slice_index list place)) ≡ true → 0 < length (leading_digits digit (drop place list))
-  some_lead inside h = by_digit (digit (slice_index list place)) refl h
+  pub some_lead : index < length list → is_some (digit (slice_index list index)) ≡ true → 0 < length (leading_digits digit (drop index list))
+  some_lead inside h = by_digit (digit (slice_index list index)) refl h
     where
-      by_digit : (o : Option ℕ) → o ≡ digit (slice_index list place) → is_some o ≡ true → 0 < length (leading_digits digit (drop place list))
+      by_digit : (o : Option ℕ) → o ≡ digit (slice_index list index) → is_some o ≡ true → 0 < length (leading_digits digit (drop index list))
       by_digit (Some d) e some =
-          let count = ap length (at_drop_more (leading_digits digit) list place 0 inside ∙ one_more digit (slice_index list place) (drop (place + 1) list) (Some d) e)
+          let count = ap length (at_drop_more (leading_digits digit) list index 0 inside ∙ one_more digit (slice_index list index) (drop (index + 1) list) (Some d) e)
           in omega (arith, count)
       by_digit None e some = absurd (false≢true some)
 
   -- they stand in the list
-  pub leads_within : place ≤ length list → place + length (leading_digits digit (drop place list)) ≤ length list
+  pub leads_within : index ≤ length list → index + length (leading_digits digit (drop index list)) ≤ length list
   leads_within inside =
-      let count = count_leads digit (drop place list)
-      in let most = prefix_len-le-length (λ c. is_some (digit c)) (drop place list)
-      in let left = length-drop place list
+      let count = count_leads digit (drop index list)
+      in let most = prefix_len-le-length (λ c. is_some (digit c)) (drop index list)
+      in let left = length-drop index list
       in omega (arith, count, most, left)
 
 -- the values so far with those of the digits that follow, one step on and at the end
-module _ (digit : ℕ → Option ℕ) (list : List ℕ) (place : ℕ) (values all : List ℕ) where
-  pub digit_read : (c d : ℕ) (more : List ℕ) → place < length list → c ≡ get_or list place c → Some d ≡ digit c → more ≡ values ++ d ∷ []
-      → values ++ leading_digits digit (drop place list) ≡ all → more ++ leading_digits digit (drop (place + 1) list) ≡ all
+module _ (digit : ℕ → Option ℕ) (list : List ℕ) (index : ℕ) (values all : List ℕ) where
+  pub digit_read : (c d : ℕ) (more : List ℕ) → index < length list → c ≡ get_or list index c → Some d ≡ digit c → more ≡ values ++ d ∷ []
+      → values ++ leading_digits digit (drop index list) ≡ all → more ++ leading_digits digit (drop (index + 1) list) ≡ all
   digit_read c d more inside is h pushed known =
-      let rest = leading_digits digit (drop (place + 1) list)
-      in let first : leading_digits digit (drop place list) ≡ d ∷ rest =
-      at_drop_more (leading_digits digit) list place c inside
-      ∙ ap (λ x. leading_digits digit (x ∷ drop (place + 1) list)) (sym is)
-      ∙ one_more digit c (drop (place + 1) list) (Some d) h
+      let rest = leading_digits digit (drop (index + 1) list)
+      in let first : leading_digits digit (drop index list) ≡ d ∷ rest =
+      at_drop_more (leading_digits digit) list index c inside
+      ∙ ap (λ x. leading_digits digit (x ∷ drop (index + 1) list)) (sym is)
+      ∙ one_more digit c (drop (index + 1) list) (Some d) h
       in ap (λ ds. ds ++ rest) pushed ∙ append_assoc values (d ∷ []) rest ∙ ap (λ ds. values ++ ds) (sym first) ∙ known
 
-  pub no_digit_read : (c : ℕ) → place < length list → c ≡ get_or list place c → None ≡ digit c
-      → values ++ leading_digits digit (drop place list) ≡ all → values ≡ all
+  pub no_digit_read : (c : ℕ) → index < length list → c ≡ get_or list index c → None ≡ digit c
+      → values ++ leading_digits digit (drop index list) ≡ all → values ≡ all
   no_digit_read c inside is h known =
-      let first : leading_digits digit (drop place list) ≡ [] =
-      at_drop_more (leading_digits digit) list place c inside
-      ∙ ap (λ x. leading_digits digit (x ∷ drop (place + 1) list)) (sym is)
-      ∙ one_more digit c (drop (place + 1) list) None h
+      let first : leading_digits digit (drop index list) ≡ [] =
+      at_drop_more (leading_digits digit) list index c inside
+      ∙ ap (λ x. leading_digits digit (x ∷ drop (index + 1) list)) (sym is)
+      ∙ one_more digit c (drop (index + 1) list) None h
       in sym (append-nil values) ∙ ap (λ ds. values ++ ds) (sym first) ∙ known
 
-  pub all_read : length list ≤ place → values ++ leading_digits digit (drop place list) ≡ all → values ≡ all
+  pub all_read : length list ≤ index → values ++ leading_digits digit (drop index list) ≡ all → values ≡ all
   all_read past known =
-      sym (append-nil values) ∙ ap (λ ds. values ++ ds) (sym (ap (leading_digits digit) (drop_all place list past) ∙ no_digits digit)) ∙ known
+      sym (append-nil values) ∙ ap (λ ds. values ++ ds) (sym (ap (leading_digits digit) (drop_all index list past) ∙ no_digits digit)) ∙ known
 
 -- ---- The reading
 
 -- a number is read once the elements of its digits were added
-pub number_read : (canonical : Canonical) (weights : Weights) (list : List ℕ) (place : ℕ) (ready after : List ℕ)
-    → AddsElements ready (number_elements weights.numeric_lead (leading_digits weights.digit (drop place list))) after
-    → IsReadAs canonical weights (number_reading weights (drop place (placed list))) ready list (place + length (leading_digits weights.digit (drop place list))) after
+pub number_read : (canonical : Canonical) (weights : Weights) (list : List ℕ) (index : ℕ) (ready after : List ℕ)
+    → AddsElements ready (number_elements weights.numeric_lead (leading_digits weights.digit (drop index list))) after
+    → IsReadAs canonical weights (number_reading weights (drop index (placed list))) ready list (index + length (leading_digits weights.digit (drop index list))) after
 unfolding number_reading
-number_read canonical weights list place ready after added =
-    let ps = drop place (placed list)
-    in let n = length (leading_digits weights.digit (drop place list))
-    in let same : characters_of ps ≡ drop place list = characters_left place list
+number_read canonical weights list index ready after added =
+    let ps = drop index (placed list)
+    in let n = length (leading_digits weights.digit (drop index list))
+    in let same : characters_of ps ≡ drop index list = characters_left index list
     in let count : digit_count weights ps ≡ n =
-    count_of weights ps ∙ ap (prefix_len (λ c. is_some (weights.digit c))) same ∙ count_leads weights.digit (drop place list)
-    in let values : filter_map (λ p. weights.digit p.character) (take n ps) ≡ leading_digits weights.digit (drop place list) =
-    taken_of weights n ps ∙ ap (λ (w : List ℕ). filter_map weights.digit (take n w)) same ∙ taken_leads weights.digit (drop place list)
-    in let left : drop n ps ≡ drop (place + n) (placed list) = drop-drop n place (placed list) ∙ ap (λ k. drop k (placed list)) (omega arith)
-    in rw (count, values, left) (record { elements = added; left = λ _. alike_self weights (drop (place + n) (placed list)) })
+    count_of weights ps ∙ ap (prefix_len (λ c. is_some (weights.digit c))) same ∙ count_leads weights.digit (drop index list)
+    in let values : filter_map (λ p. weights.digit p.character) (take n ps) ≡ leading_digits weights.digit (drop index list) =
+    taken_of weights n ps ∙ ap (λ (w : List ℕ). filter_map weights.digit (take n w)) same ∙ taken_leads weights.digit (drop index list)
+    in let left : drop n ps ≡ drop (index + n) (placed list) = drop-drop n index (placed list) ∙ ap (λ k. drop k (placed list)) (omega arith)
+    in rw (count, values, left) (record { elements = added; left = λ _. alike_self weights (drop (index + n) (placed list)) })

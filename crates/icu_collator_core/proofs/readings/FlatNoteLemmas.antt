@@ -48,7 +48,7 @@ module _ (source : CollationSource) (c bits : ℕ) (character : scalar c ≡ tru
         alone = alone;
       }
 
--- ---- what stands behind a class
+-- ---- what stands after a class
 
 module _ (source : CollationSource) (c : ℕ) where
   -- a character that isn't unsafe itself
@@ -76,7 +76,7 @@ module _ (source : CollationSource) (c : ℕ) where
       never_both true e f = false≢true e
       never_both false e f = false≢true f
 
-  -- behind which classes a character of a class may stand: its own, any, or, where it is a boundary, also none
+  -- after which classes a character of a class may stand: its own, any, or, where it is a boundary, also none
   pub mark_begins : (lead : ℕ) → (canonical_by source).class c ≡ lead → lead ≤ 255 → (numeric : Option ℕ) (before : ℕ) → before ≤ lead → MayBegin source numeric before c
   mark_begins lead is small numeric before least = (inr (omega (arith, is, least)), inl (omega (arith, small, least)))
 
@@ -130,7 +130,7 @@ module _ (source : CollationSource) (c : ℕ) where
           read = flat_before source numeric (first ∷ second ∷ []) (bits ∷ other ∷ []) (class second) all;
         }
 
-  -- a boundary that is read alone may stand behind any character
+  -- a boundary that is read alone may stand after any character
   pub boundary_flat : (numeric : Option ℕ) (first bits : ℕ) → MayBegin source numeric 256 first → full c ≡ first ∷ [] → IsReadFlat source numeric first bits
       → (before : ℕ) → IsFlat source numeric c before (bits ∷ []) 0
   boundary_flat numeric first bits may is alone before =

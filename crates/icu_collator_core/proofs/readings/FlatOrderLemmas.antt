@@ -35,7 +35,7 @@ module _ (class : ℕ → ℕ) where
       ap (λ (t : Bool). cond t (d ∷ put_in_order class a ds) (a ∷ d ∷ ds))
       (and_right (ltb 0 (class d)) (ltb (class d) (class a)) (le-ltb (class d) (class a) (omega (arith, starter))))
 
-  -- what stands behind a starter doesn't move in front of it
+  -- what stands after a starter doesn't move in front of it
   pub order_closed : (before : ℕ) (list rest : List ℕ) → StandInOrder class before list → last_class class before list ≡ 0
       → marks_in_order class (list ++ rest) ≡ list ++ marks_in_order class rest
   unfolding marks_in_order put_in_order

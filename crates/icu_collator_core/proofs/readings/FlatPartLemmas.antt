@@ -25,7 +25,7 @@ module _ (source : CollationSource) (numeric : Option ℕ) where
   abbrev full : ℕ → List ℕ
   full = (canonical_by source).full
 
-  -- these characters of a full list, each read alone, were pushed behind a character of a class; the last has this one
+  -- these characters of a full list, each read alone, were pushed after a character of a class; the last has this one
   pub record ArePushed (before : ℕ) (old parts : List ℕ) (last : ℕ) (new : List ℕ) : Type 0 where
     pub items : List ℕ
     pub read : AreReadFlat source numeric parts items

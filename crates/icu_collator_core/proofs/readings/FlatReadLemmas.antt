@@ -53,7 +53,7 @@ module _ (source : CollationSource) (numeric : Option ℕ) where
       ∙ ap (λ (es : List Element). element_of bits ∷ es)
       (flat_before cs items last h.1 nearer later (scalars_front longest_prefix (c ∷ before) (and_from (scalar c) (scalars before) h.0.character b)) s fits)
 
-  -- characters behind others
+  -- characters after others
   read_behind : (xs is : List ℕ) (y : ℕ) (ys js : List ℕ) (last trail : ℕ) → scalars xs ≡ true → scalars (y ∷ ys) ≡ true
       → AreReadBefore source numeric xs last is → AreReadBefore source numeric (y ∷ ys) trail js → MayStandBehind source numeric last (y ∷ ys)
       → AreReadBefore source numeric (xs ++ y ∷ ys) trail (is ++ js)
@@ -85,7 +85,7 @@ module _ (source : CollationSource) (numeric : Option ℕ) where
       subst (λ (is : List ℕ). IsReadInOrder source numeric [] 0 is) (sym none)
       (record { characters = refl; read = λ before later b s fits. refl; order = tt; last = λ small. refl })
 
-  -- characters that stand behind others
+  -- characters that stand after others
   pub block_in_order : (list items : List ℕ) (last first : ℕ) (rest its : List ℕ) (trail : ℕ) → IsReadInOrder source numeric list last items
       → scalars (first ∷ rest) ≡ true → MayStandBehind source numeric last (first ∷ rest) → StandInOrder class last (first ∷ rest)
       → (trail ≤ 255 → last_class class last (first ∷ rest) ≡ trail) → AreReadBefore source numeric (first ∷ rest) trail its
@@ -118,7 +118,7 @@ module _ (source : CollationSource) (numeric : Option ℕ) where
 
   module _ {I : Type 0} (steps : I → Option ℕ → I → Type 0) where
     -- Of what an iterator gave, the full lists one after another are in order and have these elements, where what follows may
-    -- stand behind this class; the rest is left to the iterator.
+    -- stand after this class; the rest is left to the iterator.
     pub record IsReadSoFar (first now : I) (items : List ℕ) (last : ℕ) : Type 0 where
       pub list : List ℕ
       pub left : (cs : List ℕ) → Spells steps first cs → (rest : List ℕ) × (flat_map full cs ≡ list ++ flat_map full rest) × Spells steps now rest

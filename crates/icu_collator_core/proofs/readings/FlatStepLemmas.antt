@@ -9,7 +9,8 @@ use Rattle.std.proofs.lemmas.List.Elements.{filter_map-append, recursion_from_Al
 use lib.Utf8.{scalar, scalars}
 use Rattle.icu_normalizer_core.specs.Canonical.{IsDecomposing, decomposed, marks_in_order}
 use Rattle.icu_normalizer_core.specs.Iter.{Spells}
-use Rattle.icu_normalizer_core.proofs.decomposed_lists.DecomposedLemmas.{AreScalar, decomposed_all_scalars, order_before}
+use Rattle.icu_normalizer_core.proofs.decomposed_lists.DecomposedLemmas.{order_before}
+use Rattle.icu_normalizer_core.proofs.decomposed_lists.ScalarLemmas.{decomposed_characters, scalars_parts}
 use Rattle.icu_normalizer_core.proofs.decomposed_lists.IterLemmas.{Spells-end, Spells-next}
 use Rattle.icu_collator_types.specs.declared.elements.Element.{Element}
 use Rattle.icu_collator_core.specs.Acceptance.{CollationSource}
@@ -64,7 +65,7 @@ module _ (source : CollationSource) (numeric : Option ℕ) where
   single x [] bits h = refl
   single x (y ∷ ys) bits h = absurd h.1
 
-  -- a character that may stand behind any class is a starter
+  -- a character that may stand after any class is a starter
   starts : (x : ℕ) → IsDecomposing (canonical_by source) → scalar x ≡ true → MayFollow 255 (class x) → class x ≡ 0
   starts x decomposing ok follows =
       ⊎_elim (λ (e : class x ≡ 0). e) (λ (e : 255 ≤ class x). let bound = decomposing.classes x ok in absurd (omega (arith, e, bound))) follows
@@ -87,7 +88,7 @@ module _ (source : CollationSource) (numeric : Option ℕ) where
         };
       }
 
-  -- one that may stand behind any class begins with a starter
+  -- one that may stand after any class begins with a starter
   first_starts : (c before : ℕ) (items : List ℕ) (lead trail : ℕ) → IsDecomposing (canonical_by source) → (note : IsFlatUpTo source numeric c items lead trail)
       → (least : before ≤ lead) → 255 ≤ lead → class (note before least).first ≡ 0
   first_starts c before items lead trail decomposing note least above =
@@ -104,7 +105,7 @@ module _ (source : CollationSource) (numeric : Option ℕ) where
       step_by c bits [] trail before old new p (note before least) is (one_primary bits p is)
       (λ some _. first_starts c before (bits ∷ []) lead trail decomposing note least (above some)) appended
 
-  -- the same of one element behind which any mark may stand
+  -- the same of one element after which any mark may stand
   pub boundary_step : (c bits before : ℕ) (old new : List ℕ) (p : ℕ) → IsFlat source numeric c before (bits ∷ []) 0
       → (element_of bits).primary ≡ p → new ≡ old ++ bits ∷ [] → IsStep source numeric c before old p 0 new
   boundary_step c bits before old new p flat is appended =
@@ -153,7 +154,7 @@ module _ (source : CollationSource) (numeric : Option ℕ) where
         let none = Spells-end steps now next h.rest step h.left in
         whole_elements source numeric text h.list last items h.read (h.text_is ∙ ap (λ (l : List ℕ). h.list ++ flat_map full l) none ∙ append-nil h.list)
 
-    -- the elements of a text that goes on with a starter behind what was read
+    -- the elements of a text that goes on with a starter after what was read
     module _ (list : List ℕ) (last x : ℕ) (behind items : List ℕ) (decomposing : IsDecomposing (canonical_by source)) (ok : All IsScalar text)
         (read : IsReadInOrder source numeric list last items) (whole : flat_map full text ≡ list ++ x ∷ behind) (starter : class x ≡ 0)
         (follows : MayStandBehind source numeric last (x ∷ behind)) where
@@ -168,16 +169,7 @@ module _ (source : CollationSource) (numeric : Option ℕ) where
 
       left_scalars : scalars (x ∷ left) ≡ true
       left_scalars =
-          behind_scalars list (x ∷ left)
-          (ap scalars (sym list_is) ∙ all_are (decomposed (canonical_by source) text) (recursion_from_All IsScalar (decomposed (canonical_by source) text) (decomposed_all_scalars (canonical_by source) text decomposing ok)))
-        where
-          all_are : (cs : List ℕ) → AreScalar cs → scalars cs ≡ true
-          all_are [] h = refl
-          all_are (c ∷ cs) h = and_from (scalar c) (scalars cs) h.0 (all_are cs h.1)
-
-          behind_scalars : (xs ys : List ℕ) → scalars (xs ++ ys) ≡ true → scalars ys ≡ true
-          behind_scalars [] ys h = h
-          behind_scalars (x ∷ xs) ys h = behind_scalars xs ys (and_parts (scalar x) (scalars (xs ++ ys)) h).1
+          (scalars_parts list (x ∷ left) (ap scalars (sym list_is) ∙ decomposed_characters (canonical_by source) text decomposing ok)).1
 
       on_elements : text_elements source numeric text ≡ unpacked items ++ elements_behind source numeric (after [] list) (x ∷ left)
       on_elements = ap (elements_behind source numeric []) list_is ∙ read.read [] (x ∷ left) refl left_scalars follows
@@ -213,7 +205,7 @@ module _ (source : CollationSource) (numeric : Option ℕ) where
     next_is list rest more c first others is left here =
         is ∙ ap (λ (l : List ℕ). list ++ flat_map full l) left ∙ ap (λ (l : List ℕ). list ++ (l ++ flat_map full more)) here
 
-    -- the elements of a text up to a starter behind what was read
+    -- the elements of a text up to a starter after what was read
     pub primary_reached : (now next : I) (last c p trail : ℕ) (items new : List ℕ) → IsDecomposing (canonical_by source) → All IsScalar text
         → ReadTo now last items → steps now (Some c) next → IsStep source numeric c last items p trail new → (p == 0) ≡ false → trail ≤ 255
         → BeginsWithPrimaries source numeric text (primaries_in items ++ p ∷ [])
@@ -224,7 +216,7 @@ module _ (source : CollationSource) (numeric : Option ℕ) where
         begins_with h.list last flat.first (flat.rest ++ flat_map full got.0) items decomposing ok h.read (next_is h.list h.rest got.0 c flat.first flat.rest h.text_is got.1 flat.full)
         begins.starter flat.follows begins.bits p begins.read begins.primary
 
-    -- What was read stands, where behind it the text ends, or a character may stand that asks for a boundary there.
+    -- What was read stands, where after it the text ends, or a character may stand that asks for a boundary there.
     pub settled_end : (now next : I) (last : ℕ) (items : List ℕ) → ReadTo now last items → steps now None next → BeginsWithPrimaries source numeric text (primaries_in items)
     settled_end now next last items h step =
         record { items = items; more = []; elements = sym (read_whole now next last items h step) ∙ sym (append-nil (unpacked items)); primaries = refl }
@@ -300,7 +292,7 @@ module _ (source : CollationSource) (numeric : Option ℕ) where
         → IsSettled source numeric text old (Primary p)
     settled_by chars last p old h stands = λ ok. subst (λ (ps : List ℕ). BeginsWithPrimaries source numeric text ps) h.1.1 (stands h.0 h.1.0 ok)
 
--- a character may stand behind a class where its step there was told
+-- a character may stand after a class where its step there was told
 pub followed_told : (source : CollationSource) (numeric : Option ℕ) (last c : ℕ) (step : Option (ℕ × ℕ)) → IfSome step (λ s. StepsTo source numeric c last s.0 s.1)
     → is_some step ≡ true → IsFollowed source numeric last (Some c)
 followed_told source numeric last c None steps_to told = absurd (false≢true told)

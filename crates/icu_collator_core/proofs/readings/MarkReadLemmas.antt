@@ -71,31 +71,31 @@ module _ (canonical : Canonical) (weights : Weights) (numeric : Bool) (p : Place
 
 -- ---- The whole run
 
--- what is ready, and what is left of a run and of the list behind it, are together what they were before
-pub record HasRunTo (canonical : Canonical) (weights : Weights) (numeric : Bool) (list : List ℕ) (place end : ℕ) (before : List ℕ) (classes : List ClassMarks) (ready : List ℕ) : Type 0 where
+-- what is ready, and what is left of a run and of the list after it, are together what they were before
+pub record HasRunTo (canonical : Canonical) (weights : Weights) (numeric : Bool) (list : List ℕ) (index end : ℕ) (before : List ℕ) (classes : List ClassMarks) (ready : List ℕ) : Type 0 where
   pub here : List Placed
   pub characters : characters_of here ≡ marks_left classes
   pub read :
       unpacked ready ++ elements_within (length (here ++ drop end (placed list))) canonical weights numeric (here ++ drop end (placed list))
-      ≡ unpacked before ++ elements_from canonical weights numeric list place
+      ≡ unpacked before ++ elements_from canonical weights numeric list index
 
-module _ (canonical : Canonical) (weights : Weights) (numeric : Bool) (list : List ℕ) (place end : ℕ) (before : List ℕ) where
+module _ (canonical : Canonical) (weights : Weights) (numeric : Bool) (list : List ℕ) (index end : ℕ) (before : List ℕ) where
   abbrev behind : List Placed
   behind = drop end (placed list)
 
   abbrev all : List Placed → List Element
   all ps = elements_within (length ps) canonical weights numeric ps
 
-  pub run_begins : (classes : List ClassMarks) → place ≤ end → marks_left classes ≡ drop place (take end list)
-      → HasRunTo canonical weights numeric list place end before classes before
+  pub run_begins : (classes : List ClassMarks) → index ≤ end → marks_left classes ≡ drop index (take end list)
+      → HasRunTo canonical weights numeric list index end before classes before
   run_begins classes order is =
-      let here = take (end - place) (drop place (placed list)) in
-      let sum : place + (end - place) ≡ end = omega (arith, order) in
-      let whole : here ++ behind ≡ drop place (placed list) =
-      ap (λ l. here ++ l) (sym (drop-drop (end - place) place (placed list) ∙ ap (λ n. drop n (placed list)) sum)) ∙ take-append-drop (end - place) (drop place (placed list)) in
+      let here = take (end - index) (drop index (placed list)) in
+      let sum : index + (end - index) ≡ end = omega (arith, order) in
+      let whole : here ++ behind ≡ drop index (placed list) =
+      ap (λ l. here ++ l) (sym (drop-drop (end - index) index (placed list) ∙ ap (λ n. drop n (placed list)) sum)) ∙ take-append-drop (end - index) (drop index (placed list)) in
       record {
         here = here;
-        characters = part_characters place end list order ∙ sym is;
+        characters = part_characters index end list order ∙ sym is;
         read = ap (λ ps. unpacked before ++ all ps) whole;
       }
 
@@ -107,15 +107,15 @@ module _ (canonical : Canonical) (weights : Weights) (numeric : Bool) (list : Li
 
   -- the first of what is left is read
   pub run_on : (classes mid new : List ClassMarks) (c : ℕ) (ready after : List ℕ) → marks_left classes ≡ c ∷ marks_left mid
-      → HasRunTo canonical weights numeric list place end before classes ready
+      → HasRunTo canonical weights numeric list index end before classes ready
       → ((p : Placed) (here : List Placed) → p.character ≡ c → characters_of here ≡ marks_left mid
       → HasReadFirst (reading canonical weights numeric p (here ++ behind)) behind new ready after)
-      → HasRunTo canonical weights numeric list place end before new after
+      → HasRunTo canonical weights numeric list index end before new after
   run_on classes mid new c ready after first h read = at h.here (h.characters ∙ first) h.read
     where
       at : (here : List Placed) → characters_of here ≡ c ∷ marks_left mid
-          → unpacked ready ++ all (here ++ behind) ≡ unpacked before ++ elements_from canonical weights numeric list place
-          → HasRunTo canonical weights numeric list place end before new after
+          → unpacked ready ++ all (here ++ behind) ≡ unpacked before ++ elements_from canonical weights numeric list index
+          → HasRunTo canonical weights numeric list index end before new after
       at [] e was = absurd (cc)
       at (p ∷ here) e was =
           let step = read p here (cc) (cc) in
@@ -138,7 +138,7 @@ module _ (canonical : Canonical) (weights : Weights) (numeric : Bool) (list : Li
           }
 
   -- nothing is left of the run
-  pub run_ends : (classes : List ClassMarks) (ready : List ℕ) → marks_left classes ≡ [] → HasRunTo canonical weights numeric list place end before classes ready
-      → IsRead canonical weights numeric list place (unpacked before) list end (unpacked ready)
+  pub run_ends : (classes : List ClassMarks) (ready : List ℕ) → marks_left classes ≡ [] → HasRunTo canonical weights numeric list index end before classes ready
+      → IsRead canonical weights numeric list index (unpacked before) list end (unpacked ready)
   run_ends classes ready none h =
       ap (λ l. unpacked ready ++ all (l ++ behind)) (sym (no_characters h.here (h.characters ∙ none))) ∙ h.read

@@ -86,7 +86,7 @@ module _ (class : ℕ → ℕ) where
   module _ (weights : Weights) (known : KnowNoMarksBefore class weights) where
     -- ---- Prefixes
 
-    -- nothing is recorded behind a mark
+    -- nothing is recorded after a mark
     none_behind_mark : (c : ℕ) (prefix : List ℕ) → are_starters prefix ≡ false → weights.recorded prefix (c ∷ []) ≡ None
     none_behind_mark c [] h = absurd (true≢false h)
     none_behind_mark c (b ∷ bs) h = at (weights.recorded (b ∷ bs) (c ∷ [])) refl
@@ -95,7 +95,7 @@ module _ (class : ℕ → ℕ) where
         at None is = refl
         at (Some es) is = absurd (true≢false (sym (known.at b bs c (ap is_some is)).1 ∙ h))
 
-    -- and a mark is recorded behind nothing
+    -- and a mark is recorded after nothing
     none_of_mark : (c : ℕ) (prefix : List ℕ) → (class c == 0) ≡ false → 0 < length prefix → weights.recorded prefix (c ∷ []) ≡ None
     none_of_mark c [] h some = absurd (omega (arith, some))
     none_of_mark c (b ∷ bs) h some = at (weights.recorded (b ∷ bs) (c ∷ [])) refl
@@ -142,7 +142,7 @@ module _ (class : ℕ → ℕ) where
     unfolding moves_marks
     more_moved c d xs ys first rest = take_moved longest_prefix (c ∷ xs) (d ∷ ys) (and_from _ _ first rest)
 
-    -- the same characters behind lists in which marks changed places
+    -- the same characters after lists in which marks changed places
     pub placed_moved : (xs ys cs : List ℕ) → moves_marks class xs ys ≡ true → AreAlike weights (placed_behind xs cs) (placed_behind ys cs)
     unfolding placed_behind
     placed_moved xs ys [] h = tt
@@ -166,7 +166,7 @@ module _ (class : ℕ → ℕ) where
         let both = and_parts ((c == d) || (not (class c == 0) && not (class d == 0))) (moves_marks class cs ds) h
         in dropped_moved k (take longest_prefix (c ∷ xs)) (take longest_prefix (d ∷ ys)) cs ds (more_moved c d xs ys both.0 b) both.1 e
 
-    -- what stands from a place on is read alike where marks before it changed places
+    -- what stands from an index on is read alike where marks before it changed places
     pub moved_alike : (k : ℕ) (old new : List ℕ) → moves_marks class old new ≡ true → drop k old ≡ drop k new
         → AreAlike weights (drop k (placed old)) (drop k (placed new))
     unfolding moves_marks

@@ -134,7 +134,7 @@ module _ (canonical : Canonical) (weights : Weights) (c d : ℕ) (es : List Elem
 
 -- ---- texts that no other goes on from
 
--- behind a cursor that has stopped
+-- after a cursor that has stopped
 pub last_behind : (entry : TableWord) (d : ℕ) (cursor next : Char16TrieIterator) (answer : TrieResult) → cursor_units cursor ≡ suffix_units entry
     → cursor_state cursor ≡ start (suffix_units entry) → Follows cursor (units_of d) answer next → IsStopped next
     → (cs : List ℕ) → longer_by entry (d ∷ cs) ≡ longer_by entry (d ∷ [])

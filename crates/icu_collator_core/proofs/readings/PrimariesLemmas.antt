@@ -24,35 +24,6 @@ two_listed bits other p q e f =
     ∙ ap (λ (ps : List ℕ). primaries_in (bits ∷ []) ++ ps) (one_primary other q f)
     ∙ ap (λ (ps : List ℕ). ps ++ primary_if_any q) (one_primary bits p e)
 
-pub three_listed : (bits other third p q r : ℕ) → (element_of bits).primary ≡ p → (element_of other).primary ≡ q → (element_of third).primary ≡ r
-    → primaries_in (bits ∷ other ∷ third ∷ []) ≡ primary_if_any p ++ (primary_if_any q ++ primary_if_any r)
-three_listed bits other third p q r e f g =
-    filter_map-append primary_in (bits ∷ []) (other ∷ third ∷ [])
-    ∙ ap (λ (ps : List ℕ). primaries_in (bits ∷ []) ++ ps) (two_listed other third q r f g)
-    ∙ ap (λ (ps : List ℕ). ps ++ (primary_if_any q ++ primary_if_any r)) (one_primary bits p e)
-
--- ---- lists of few, by their places
-
-pub list_of_one : (xs : List ℕ) (x : ℕ) → length xs ≡ 1 → x ≡ slice_index xs 0 → xs ≡ x ∷ []
-list_of_one [] x l e = absurd (omega (arith, l))
-list_of_one (a ∷ []) x l e = ap (λ (z : ℕ). z ∷ []) (sym e)
-list_of_one (a ∷ b ∷ more) x l e = absurd (omega (arith, l))
-
-pub list_of_two : (xs : List ℕ) (x y : ℕ) → length xs ≡ 2 → x ≡ slice_index xs 0 → y ≡ slice_index xs 1 → xs ≡ x ∷ y ∷ []
-list_of_two [] x y l e f = absurd (omega (arith, l))
-list_of_two (a ∷ []) x y l e f = absurd (omega (arith, l))
-list_of_two (a ∷ b ∷ []) x y l e f = ap (λ (z : ℕ). z ∷ b ∷ []) (sym e) ∙ ap (λ (z : ℕ). x ∷ z ∷ []) (sym f)
-list_of_two (a ∷ b ∷ d ∷ more) x y l e f = absurd (omega (arith, l))
-
-pub list_of_three : (xs : List ℕ) (x y z : ℕ) → length xs ≡ 3 → x ≡ slice_index xs 0 → y ≡ slice_index xs 1 → z ≡ slice_index xs 2
-    → xs ≡ x ∷ y ∷ z ∷ []
-list_of_three [] x y z l e f g = absurd (omega (arith, l))
-list_of_three (a ∷ []) x y z l e f g = absurd (omega (arith, l))
-list_of_three (a ∷ b ∷ []) x y z l e f g = absurd (omega (arith, l))
-list_of_three (a ∷ b ∷ d ∷ []) x y z l e f g =
-    ap (λ (w : ℕ). w ∷ b ∷ d ∷ []) (sym e) ∙ ap (λ (w : ℕ). x ∷ w ∷ d ∷ []) (sym f) ∙ ap (λ (w : ℕ). x ∷ y ∷ w ∷ []) (sym g)
-list_of_three (a ∷ b ∷ d ∷ h ∷ more) x y z l e f g = absurd (omega (arith, l))
-
 -- ---- one character
 
 module _ (source : CollationSource) (numeric : Option ℕ) where
@@ -87,7 +58,7 @@ module _ (source : CollationSource) (numeric : Option ℕ) where
           },
         ))
 
-  -- ---- characters one behind another, as letters of a syllable
+  -- ---- characters one after another, as letters of a syllable
 
   -- one with a single primary
   one_more : (c before : ℕ) (old new : List ℕ) (next : NextPrimaries) → IsPushedWith source numeric c before old next new → next.second ≡ 0 → next.third ≡ 0
@@ -118,7 +89,7 @@ module _ (source : CollationSource) (numeric : Option ℕ) where
       ∙ ap (λ (ps : List ℕ). ps ++ (primary_if_any second.first ++ primary_if_any third.first)) (one_more a before old one first h none nothing)
       ∙ append_assoc (primaries_in old) (primary_if_any first.first) (primary_if_any second.first ++ primary_if_any third.first)
 
-  -- ---- what may stand behind any class begins with a starter
+  -- ---- what may stand after any class begins with a starter
 
   starter_of : (x least : ℕ) → IsDecomposing (canonical_by source) → scalar x ≡ true → 255 ≤ least → MayFollow least (class x) → class x ≡ 0
   starter_of x least decomposing ok above follows =

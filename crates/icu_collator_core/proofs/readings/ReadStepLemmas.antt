@@ -1,4 +1,4 @@
--- A reading of a list at a place, and what it leaves to be read.
+-- A reading of a list at an index, and what it leaves to be read.
 use Rattle.std.proofs.Common.{◌≡◌, ℕ, suc, ◌+◌, ◌<◌, ◌≤◌, ◌==◌, ◌||◌, Bool, true, false, List, [], ◌∷◌, ◌++◌, length, drop, refl, sym, ◌∙◌, ap, subst, arith, append_assoc, append-nil, Option, Some, None}
 use Rattle.std.specs.Option.{is_some, unwrap_or}
 use Rattle.std.proofs.lemmas.Bool.{false≢true, true≢false}
@@ -42,27 +42,27 @@ nothing_more : (canonical : Canonical) (weights : Weights) (numeric : Bool) → 
 unfolding elements_within
 nothing_more canonical weights numeric = refl
 
--- behind the last character nothing is left to be read
-pub nothing_from : (canonical : Canonical) (weights : Weights) (numeric : Bool) (list : List ℕ) (place : ℕ) → drop place (placed list) ≡ []
-    → elements_from canonical weights numeric list place ≡ []
-nothing_from canonical weights numeric list place e =
+-- after the last character nothing is left to be read
+pub nothing_from : (canonical : Canonical) (weights : Weights) (numeric : Bool) (list : List ℕ) (index : ℕ) → drop index (placed list) ≡ []
+    → elements_from canonical weights numeric list index ≡ []
+nothing_from canonical weights numeric list index e =
     ap (λ (ps : List Placed). elements_within (length ps) canonical weights numeric ps) e ∙ nothing_more canonical weights numeric
 
--- what the reading at a place gives stands before what is left
-pub read_from : (canonical : Canonical) (weights : Weights) (numeric : Bool) (old : List ℕ) (place c : ℕ) (ready new : List ℕ) (next : ℕ) (after : List ℕ) (first : Reading)
-    → place ≤ length old → drop place old ≡ c ∷ drop (place + 1) old → KnowNoMarksBefore canonical.class weights
-    → reading canonical weights numeric (placed_at old place c) (drop (place + 1) (placed old)) ≡ first
+-- what the reading at an index gives stands before what is left
+pub read_from : (canonical : Canonical) (weights : Weights) (numeric : Bool) (old : List ℕ) (index c : ℕ) (ready new : List ℕ) (next : ℕ) (after : List ℕ) (first : Reading)
+    → index ≤ length old → drop index old ≡ c ∷ drop (index + 1) old → KnowNoMarksBefore canonical.class weights
+    → reading canonical weights numeric (placed_at old index c) (drop (index + 1) (placed old)) ≡ first
     → IsReadAs canonical weights first ready new next after
-    → IsRead canonical weights numeric old place (unpacked ready) new next (unpacked after)
-read_from canonical weights numeric old place c ready new next after first inside here known is h =
-    let p = placed_at old place c in
-    let ps = drop (place + 1) (placed old) in
+    → IsRead canonical weights numeric old index (unpacked ready) new next (unpacked after)
+read_from canonical weights numeric old index c ready new next after first inside here known is h =
+    let p = placed_at old index c in
+    let ps = drop (index + 1) (placed old) in
     let qs = drop next (placed new) in
     let alike : AreAlike weights first.left qs = h.left known in
     let fewer : length first.left ≤ length ps = subst (λ (r : Reading). length r.left ≤ length ps) is (reading_shrinks canonical weights numeric p ps) in
     let same = alike_count weights first.left qs alike in
-    let whole : elements_from canonical weights numeric old place ≡ first.elements ++ elements_from canonical weights numeric new next =
-    ap (λ (l : List Placed). elements_within (length l) canonical weights numeric l) (placed_next place c old inside here)
+    let whole : elements_from canonical weights numeric old index ≡ first.elements ++ elements_from canonical weights numeric new next =
+    ap (λ (l : List Placed). elements_within (length l) canonical weights numeric l) (placed_next index c old inside here)
     ∙ first_then canonical weights numeric p ps
     ∙ ap (λ (r : Reading). r.elements ++ elements_within (length ps) canonical weights numeric r.left) is
     ∙ ap (λ (es : List Element). first.elements ++ es)
@@ -72,23 +72,23 @@ read_from canonical weights numeric old place c ready new next after first insid
     ∙ append_assoc (unpacked ready) first.elements (elements_from canonical weights numeric new next)
     ∙ ap (λ (es : List Element). unpacked ready ++ es) (sym whole)
 
--- ---- The character at a place
+-- ---- The character at an index
 
-pub left_from : (list : List ℕ) (place c : ℕ) → place < length list → c ≡ slice_index list place → drop place list ≡ c ∷ drop (place + 1) list
-left_from list place c inside is = drop_more list place 0 inside ∙ ap (λ d. d ∷ drop (place + 1) list) (sym is)
+pub left_from : (list : List ℕ) (index c : ℕ) → index < length list → c ≡ slice_index list index → drop index list ≡ c ∷ drop (index + 1) list
+left_from list index c inside is = drop_more list index 0 inside ∙ ap (λ d. d ∷ drop (index + 1) list) (sym is)
 
-pub first_left_is : (list : List ℕ) (place c : ℕ) → place < length list → drop place list ≡ c ∷ drop (place + 1) list → slice_index list place ≡ c
-first_left_is list place c inside here = ap (λ (l : List ℕ). slice_index l 0) (sym (drop_more list place 0 inside) ∙ here)
+pub first_left_is : (list : List ℕ) (index c : ℕ) → index < length list → drop index list ≡ c ∷ drop (index + 1) list → slice_index list index ≡ c
+first_left_is list index c inside here = ap (λ (l : List ℕ). slice_index l 0) (sym (drop_more list index 0 inside) ∙ here)
 
-pub accent_at : (list : List ℕ) (place c : ℕ) → place < length list → c ≡ slice_index list place
-    → ((c == 0x300) || (c == 0x301) || (c == 0x303)) ≡ is_before_accent (drop place (placed list))
+pub accent_at : (list : List ℕ) (index c : ℕ) → index < length list → c ≡ slice_index list index
+    → ((c == 0x300) || (c == 0x301) || (c == 0x303)) ≡ is_before_accent (drop index (placed list))
 unfolding is_before_accent
-accent_at list place c inside is =
-    ap is_before_accent (sym (placed_next place c list (omega (arith, inside)) (left_from list place c inside is)))
+accent_at list index c inside is =
+    ap is_before_accent (sym (placed_next index c list (omega (arith, inside)) (left_from list index c inside is)))
 
-pub no_accent_at : (list : List ℕ) (place : ℕ) → place ≡ length list → false ≡ is_before_accent (drop place (placed list))
+pub no_accent_at : (list : List ℕ) (index : ℕ) → index ≡ length list → false ≡ is_before_accent (drop index (placed list))
 unfolding is_before_accent
-no_accent_at list place e = ap is_before_accent (sym (placed_end place list e))
+no_accent_at list index e = ap is_before_accent (sym (placed_end index list e))
 
 -- ---- What weights with another lead byte of numbers say
 
@@ -121,34 +121,34 @@ module _ (canonical : Canonical) (weights : Weights) (pools : Pools) (c : ℕ) (
         left = found.left;
       }
 
-module _ (canonical : Canonical) (weights : Weights) (old : List ℕ) (place c : ℕ) where
+module _ (canonical : Canonical) (weights : Weights) (old : List ℕ) (index c : ℕ) where
   abbrev here : Placed
-  here = placed_at old place c
+  here = placed_at old index c
 
   abbrev behind : List Placed
-  behind = drop (place + 1) (placed old)
+  behind = drop (index + 1) (placed old)
 
-  -- behind a recorded prefix
+  -- after a recorded prefix
   pub prefixed_read : (ready after : List ℕ) → true ≡ is_some (prefix_match weights here)
       → AddsElements ready (unwrap_or (prefix_match weights here) []) after
-      → IsReadAs canonical weights (reading_in_context canonical weights here behind) ready old (place + 1) after
+      → IsReadAs canonical weights (reading_in_context canonical weights here behind) ready old (index + 1) after
   prefixed_read ready after is added = by_match (prefix_match weights here) refl is added
     where
       by_match : (o : Option (List Element)) → prefix_match weights here ≡ o → true ≡ is_some o → AddsElements ready (unwrap_or o []) after
-          → IsReadAs canonical weights (reading_in_context canonical weights here behind) ready old (place + 1) after
+          → IsReadAs canonical weights (reading_in_context canonical weights here behind) ready old (index + 1) after
       by_match (Some es) e some h = rw (e, reading_in_context) (record { elements = h; left = λ _. alike_self weights behind })
       by_match None e some h = absurd (true≢false some)
 
-  -- behind none
+  -- after none
   pub unprefixed_read : (ready between list : List ℕ) (next : ℕ) (after : List ℕ) → false ≡ is_some (prefix_match weights here)
       → AddsElements ready (unwrap_or (prefix_match weights here) []) between
-      → place ≤ length old → drop place old ≡ c ∷ drop (place + 1) old
-      → IsReadAs canonical weights (text_reading canonical weights c (drop place (placed old))) between list next after
+      → index ≤ length old → drop index old ≡ c ∷ drop (index + 1) old
+      → IsReadAs canonical weights (text_reading canonical weights c (drop index (placed old))) between list next after
       → IsReadAs canonical weights (reading_in_context canonical weights here behind) ready list next after
   unprefixed_read ready between list next after is added inside first h = by_match (prefix_match weights here) refl is added
     where
-      same : text_reading canonical weights c (drop place (placed old)) ≡ text_reading canonical weights c (here ∷ behind)
-      same = ap (text_reading canonical weights c) (placed_next place c old inside first)
+      same : text_reading canonical weights c (drop index (placed old)) ≡ text_reading canonical weights c (here ∷ behind)
+      same = ap (text_reading canonical weights c) (placed_next index c old inside first)
 
       by_match : (o : Option (List Element)) → prefix_match weights here ≡ o → false ≡ is_some o → AddsElements ready (unwrap_or o []) between
           → IsReadAs canonical weights (reading_in_context canonical weights here behind) ready list next after
@@ -157,5 +157,5 @@ module _ (canonical : Canonical) (weights : Weights) (old : List ℕ) (place c :
           let was : unpacked between ≡ unpacked ready = k ∙ append-nil (unpacked ready) in
           let read : IsReadAs canonical weights (text_reading canonical weights c (here ∷ behind)) ready list next after =
           subst (λ (r : Reading). IsReadAs canonical weights r ready list next after) same
-          (record { elements = h.elements ∙ ap (λ (es : List Element). es ++ (text_reading canonical weights c (drop place (placed old))).elements) was; left = h.left }) in
+          (record { elements = h.elements ∙ ap (λ (es : List Element). es ++ (text_reading canonical weights c (drop index (placed old))).elements) was; left = h.left }) in
           rw (e, reading_in_context) read

@@ -45,11 +45,11 @@ given_then ready given bits behind inside is =
     ∙ ap (λ (es : List Element). element_of bits ∷ es) (sym (drop-map element_of (given + 1) ready)))
 
 module _ (canonical : Canonical) (weights : Weights) (numeric : Bool) where
-  pub nothing_left : (ready : List ℕ) (given : ℕ) (list : List ℕ) (place : ℕ) → given ≡ length ready → place ≡ length list
-      → drop given (unpacked ready) ++ elements_from canonical weights numeric list place ≡ []
-  nothing_left ready given list place e f =
-      ap (λ (es : List Element). es ++ elements_from canonical weights numeric list place) (all_given ready given e)
-      ∙ nothing_from canonical weights numeric list place (placed_end place list f)
+  pub nothing_left : (ready : List ℕ) (given : ℕ) (list : List ℕ) (index : ℕ) → given ≡ length ready → index ≡ length list
+      → drop given (unpacked ready) ++ elements_from canonical weights numeric list index ≡ []
+  nothing_left ready given list index e f =
+      ap (λ (es : List Element). es ++ elements_from canonical weights numeric list index) (all_given ready given e)
+      ∙ nothing_from canonical weights numeric list index (placed_end index list f)
 
   -- a list of which nothing was read
   pub whole_left : (ready list : List ℕ) → ready ≡ []
@@ -59,37 +59,37 @@ module _ (canonical : Canonical) (weights : Weights) (numeric : Bool) where
       ∙ ap (λ n. elements_within n canonical weights numeric (placed list)) (placed_count [] list)
 
   -- what was read stands in front of what is left
-  pub read_left : (before : List ℕ) (given : ℕ) (ready old : List ℕ) (place : ℕ) (new : List ℕ) (next : ℕ) (after : List ℕ) → given ≡ length before → ready ≡ []
-      → IsRead canonical weights numeric old place (unpacked ready) new next (unpacked after)
+  pub read_left : (before : List ℕ) (given : ℕ) (ready old : List ℕ) (index : ℕ) (new : List ℕ) (next : ℕ) (after : List ℕ) → given ≡ length before → ready ≡ []
+      → IsRead canonical weights numeric old index (unpacked ready) new next (unpacked after)
       → drop 0 (unpacked after) ++ elements_from canonical weights numeric new next
-      ≡ drop given (unpacked before) ++ elements_from canonical weights numeric old place
-  read_left before given ready old place new next after e none h =
+      ≡ drop given (unpacked before) ++ elements_from canonical weights numeric old index
+  read_left before given ready old index new next after e none h =
       h
-      ∙ ap (λ items. unpacked items ++ elements_from canonical weights numeric old place) none
-      ∙ ap (λ (es : List Element). es ++ elements_from canonical weights numeric old place) (sym (all_given before given e))
+      ∙ ap (λ items. unpacked items ++ elements_from canonical weights numeric old index) none
+      ∙ ap (λ (es : List Element). es ++ elements_from canonical weights numeric old index) (sym (all_given before given e))
 
   -- a character that is read alone gives its element, and is read
-  pub alone_left : (list : List ℕ) (place c bits : ℕ) → place < length list → c ≡ slice_index list place → scalars list ≡ true
+  pub alone_left : (list : List ℕ) (index c bits : ℕ) → index < length list → c ≡ slice_index list index → scalars list ≡ true
       → KnowNoMarksBefore canonical.class weights → IsReadAlone weights c bits → special_primary c ≡ None → (c == 0x307) ≡ false
-      → elements_from canonical weights numeric list place ≡ element_of bits ∷ elements_from canonical weights numeric list (place + 1)
-  alone_left list place c bits inside is ok known alone ordinary undotted =
-      let here = left_from list place c inside is in
-      let p = placed_at list place c in
-      let ps = drop (place + 1) (placed list) in
-      let before : scalars (characters_before list place) ≡ true = scalars_front longest_prefix (reverse (take place list)) (scalars_back (take place list) (scalars_front place list ok)) in
-      let behind : scalars (characters_of ps) ≡ true = ap scalars (characters_left (place + 1) list) ∙ scalars_behind (place + 1) list ok in
+      → elements_from canonical weights numeric list index ≡ element_of bits ∷ elements_from canonical weights numeric list (index + 1)
+  alone_left list index c bits inside is ok known alone ordinary undotted =
+      let here = left_from list index c inside is in
+      let p = placed_at list index c in
+      let ps = drop (index + 1) (placed list) in
+      let before : scalars (characters_before list index) ≡ true = scalars_front longest_prefix (reverse (take index list)) (scalars_back (take index list) (scalars_front index list ok)) in
+      let behind : scalars (characters_of ps) ≡ true = ap scalars (characters_left (index + 1) list) ∙ scalars_behind (index + 1) list ok in
       sym
-      (read_from canonical weights numeric list place c [] list (place + 1) (bits ∷ []) (record { elements = element_of bits ∷ []; left = ps }) (omega (arith, inside)) here known
+      (read_from canonical weights numeric list index c [] list (index + 1) (bits ∷ []) (record { elements = element_of bits ∷ []; left = ps }) (omega (arith, inside)) here known
       (alone_read canonical weights c bits alone numeric p ps refl before behind ordinary undotted)
       (record { elements = refl; left = λ _. alike_self weights ps }))
 
   -- a character that is read alone is read where its element is appended
-  pub alone_is_read : (list : List ℕ) (place c bits : ℕ) (ready after : List ℕ) → after ≡ ready ++ bits ∷ []
-      → place < length list → c ≡ slice_index list place → scalars list ≡ true
+  pub alone_is_read : (list : List ℕ) (index c bits : ℕ) (ready after : List ℕ) → after ≡ ready ++ bits ∷ []
+      → index < length list → c ≡ slice_index list index → scalars list ≡ true
       → KnowNoMarksBefore canonical.class weights → IsReadAlone weights c bits → special_primary c ≡ None → (c == 0x307) ≡ false
-      → IsRead canonical weights numeric list place (unpacked ready) list (place + 1) (unpacked after)
-  alone_is_read list place c bits ready after e inside is ok known alone ordinary undotted =
-      let behind = elements_from canonical weights numeric list (place + 1) in
+      → IsRead canonical weights numeric list index (unpacked ready) list (index + 1) (unpacked after)
+  alone_is_read list index c bits ready after e inside is ok known alone ordinary undotted =
+      let behind = elements_from canonical weights numeric list (index + 1) in
       ap (λ (es : List Element). es ++ behind) (unpacked_more ready after bits e)
       ∙ append_assoc (unpacked ready) (element_of bits ∷ []) behind
-      ∙ ap (λ (es : List Element). unpacked ready ++ es) (sym (alone_left list place c bits inside is ok known alone ordinary undotted))
+      ∙ ap (λ (es : List Element). unpacked ready ++ es) (sym (alone_left list index c bits inside is ok known alone ordinary undotted))

@@ -85,7 +85,7 @@ found_above weights list (suc n) =
     (λ _. omega arith)
     (λ _. found_above weights list n)
 
--- a text that begins some list has a character, and so has it with what is put behind it
+-- a text that begins some list has a character, and so has it with what is put after it
 taken_above : (n c : ℕ) (cs : List ℕ) → 0 < n → 0 < length (take n (c ∷ cs))
 taken_above zero c cs h = absurd (omega arith)
 taken_above (suc n) c cs h = omega arith

@@ -81,7 +81,7 @@ not_recorded : {A : Type 0} (o : Option A) → ((x : A) → o ≡ Some x → ⊥
 not_recorded None h = refl
 not_recorded (Some x) h = absurd (h x refl)
 
--- a starter that no recorded text holds behind its first character, and with which no prefix is recorded
+-- a starter that no recorded text holds after its first character, and with which no prefix is recorded
 pub starter_boundary : (canonical : Canonical) (weights : Weights) (d : ℕ) → canonical.class d ≡ 0
     → ((prefix : List ℕ) (first : ℕ) (later : List ℕ) (es : List Element) → weights.recorded prefix (first ∷ later) ≡ Some es → Contains later d → ⊥)
     → ((nearest : ℕ) (further later : List ℕ) (es : List Element) → weights.recorded (nearest ∷ further) (d ∷ later) ≡ Some es → ⊥)
@@ -94,7 +94,7 @@ starter_boundary canonical weights d starter first unprefixed =
       prefixes = λ p ps s. not_recorded (weights.recorded (p ∷ ps) (d ∷ [])) (λ es e. unprefixed p ps [] es e);
     }
 
--- characters stand before a place as they stand in their list
+-- characters stand before an index as they stand in their list
 pub after_scalars : (before cs : List ℕ) → scalars before ≡ true → scalars cs ≡ true → scalars (after before cs) ≡ true
 after_scalars before [] h g = h
 after_scalars before (c ∷ cs) h g =
@@ -129,7 +129,7 @@ left_scalars canonical weights numeric p ps h =
 
 -- ---- the longest recorded text
 
--- more of a list than what stands before a place goes on behind the place
+-- more of a list than what stands before an index goes on after the index
 take_past : (xs ys : List ℕ) (d k : ℕ) → length xs < k → (m : ℕ) × (take k (xs ++ d ∷ ys) ≡ xs ++ d ∷ take m ys)
 take_past xs ys d zero l = absurd (omega arith)
 take_past [] ys d (suc k) l = (k, refl)

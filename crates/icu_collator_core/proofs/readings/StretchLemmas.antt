@@ -64,7 +64,7 @@ module _ (class : ℕ → ℕ) where
   order_behind_front before [] ys h = h
   order_behind_front before (x ∷ xs) ys h = order_behind_front (class x) xs ys h.1
 
-  -- marks are put in order behind a starter as by themselves
+  -- marks are put in order after a starter as by themselves
   pub starter_first : (d : ℕ) (ms : List ℕ) → class d ≡ 0 → marks_in_order class (d ∷ ms) ≡ d ∷ marks_in_order class ms
   unfolding marks_in_order
   starter_first d ms starter = order_before class d [] ms starter
@@ -79,7 +79,7 @@ module _ (source : CollationSource) (numeric : Option ℕ) where
   abbrev normal : List ℕ → List ℕ
   normal text = decomposed (canonical_by source) text
 
-  -- what may stand behind a class may stand behind any where a boundary has to follow
+  -- what may stand after a class may stand after any where a boundary has to follow
   pub before_boundary : (list items : List ℕ) (last : ℕ) → IsReadInOrder source numeric list last items → IsReadInOrder source numeric list 256 items
   before_boundary list items last h =
       record {
@@ -93,7 +93,7 @@ module _ (source : CollationSource) (numeric : Option ℕ) where
       weaker [] fits = tt
       weaker (d ∷ ds) fits = ⊎_elim (λ (small : 256 ≤ 255). absurd (omega (arith, small))) (λ (apart : IsBoundaryApart source numeric d). inr apart) fits
 
-  -- what may stand behind a boundary alone is one
+  -- what may stand after a boundary alone is one
   pub flat_begins : (c : ℕ) (items : List ℕ) (trail : ℕ) → IsFlat source numeric c 256 items trail → BeginsApart source numeric c
   flat_begins c items trail flat =
       record {
@@ -233,7 +233,7 @@ module _ (source : CollationSource) (numeric : Option ℕ) where
   same_still text chars done c same rest =
       ap normal (append_assoc text (c ∷ []) rest) ∙ same (c ∷ rest) ∙ ap (λ (l : List ℕ). done ++ normal l) (sym (append_assoc chars (c ∷ []) rest))
 
-  -- a character that is read flat behind a flat stretch
+  -- a character that is read flat after a flat stretch
   pub flat_more : (text chars : List ℕ) (count last : ℕ) (is_rough : Bool) (items new : List ℕ) (c trail : ℕ) → IsUpTo text chars count last is_rough items → is_rough ≡ false
       → IsPushed source numeric c last items trail new → IsUpTo (text ++ c ∷ []) (chars ++ c ∷ []) count trail is_rough new
   flat_more text chars count last is_rough items new c trail h smooth pushed =
@@ -250,7 +250,7 @@ module _ (source : CollationSource) (numeric : Option ℕ) where
             (more_in_order source numeric (h.done ++ flat_map full chars) items new last c trail (h.flat smooth) pushed);
       }
 
-  -- any character behind a stretch, which is rough then
+  -- any character after a stretch, which is rough then
   pub rough_more : (text chars : List ℕ) (count last : ℕ) (is_rough : Bool) (items : List ℕ) (c : ℕ) → IsUpTo text chars count last is_rough items
       → IsUpTo (text ++ c ∷ []) (chars ++ c ∷ []) count last true items
   rough_more text chars count last is_rough items c h =

@@ -10,7 +10,8 @@ use Rattle.std.proofs.lemmas.List.Elements.{All-tail, recursion_from_All}
 use lib.Utf8.{scalar, scalars}
 use Rattle.icu_normalizer_core.specs.Canonical.{IsDecomposing, decomposed, marks_in_order}
 use Rattle.icu_normalizer_core.specs.Iter.{Spells}
-use Rattle.icu_normalizer_core.proofs.decomposed_lists.DecomposedLemmas.{AreScalar, decomposed_all_scalars, order_before}
+use Rattle.icu_normalizer_core.proofs.decomposed_lists.DecomposedLemmas.{order_before}
+use Rattle.icu_normalizer_core.proofs.decomposed_lists.ScalarLemmas.{decomposed_characters, scalars_parts}
 use Rattle.icu_normalizer_core.proofs.decomposed_lists.IterLemmas.{Spells-end, Spells-next}
 use Rattle.icu_collator_types.specs.declared.elements.Element.{Element}
 use Rattle.icu_collator_core.specs.Acceptance.{CollationSource}
@@ -48,15 +49,6 @@ unpacked_length : (xs : List ℕ) → length (unpacked xs) ≡ length xs
 unpacked_length [] = refl
 unpacked_length (x ∷ xs) = ap suc (unpacked_length xs)
 
-front_scalars : (xs ys : List ℕ) → scalars (xs ++ ys) ≡ true → scalars xs ≡ true
-front_scalars [] ys h = refl
-front_scalars (x ∷ xs) ys h =
-    let parts = and_parts (scalar x) (scalars (xs ++ ys)) h in and_from (scalar x) (scalars xs) parts.0 (front_scalars xs ys parts.1)
-
-behind_scalars : (xs ys : List ℕ) → scalars (xs ++ ys) ≡ true → scalars ys ≡ true
-behind_scalars [] ys h = h
-behind_scalars (x ∷ xs) ys h = behind_scalars xs ys (and_parts (scalar x) (scalars (xs ++ ys)) h).1
-
 behind_all : (xs ys : List ℕ) → All IsScalar (xs ++ ys) → All IsScalar ys
 behind_all [] ys h = h
 behind_all (x ∷ xs) ys h = behind_all xs ys (All-tail IsScalar x (xs ++ ys) h)
@@ -79,9 +71,9 @@ module _ (source : CollationSource) (numeric : Option ℕ) where
   unfolding decomposed marks_in_order elements_within placed_behind
   no_elements = refl
 
-  -- ---- texts behind fronts
+  -- ---- texts after fronts
 
-  -- the elements of a front and a text behind it are those of the front, and those of the text behind some characters
+  -- the elements of a front and a text after it are those of the front, and those of the text after some characters
   abbrev IsFoundBehind : List ℕ → List ℕ → Type 0
   IsFoundBehind front text =
       (before : List ℕ) × (scalars before ≡ true) × (given (front ++ text) ≡ given front ++ elements_behind source numeric before (normal text))
@@ -110,14 +102,9 @@ module _ (source : CollationSource) (numeric : Option ℕ) where
 
   module _ (decomposing : IsDecomposing (canonical_by source)) where
     whole_scalars : (text : List ℕ) → All IsScalar text → scalars (normal text) ≡ true
-    whole_scalars text ok =
-        all_are (normal text) (recursion_from_All IsScalar (normal text) (decomposed_all_scalars (canonical_by source) text decomposing ok))
-      where
-        all_are : (cs : List ℕ) → AreScalar cs → scalars cs ≡ true
-        all_are [] h = refl
-        all_are (c ∷ cs) h = and_from (scalar c) (scalars cs) h.0 (all_are cs h.1)
+    whole_scalars text ok = decomposed_characters (canonical_by source) text decomposing ok
 
-    -- so it is of a text behind such a front
+    -- so it is of a text after such a front
     pub behind_front : (front text : List ℕ) → EndsApart source numeric front text → All IsScalar (front ++ text) → IsFoundBehind front text
     unfolding decomposed
     behind_front front text apart ok = ⊎_elim at_beginning before_boundary apart
@@ -143,15 +130,15 @@ module _ (source : CollationSource) (numeric : Option ℕ) where
             ap (marks_in_order class) (flat_map-append full front text ∙ ap (λ (l : List ℕ). flat_map full front ++ l) spelled)
             ∙ order_before class first (flat_map full front) behind starter in
             let characters : scalars (normal front ++ first ∷ left) ≡ true = sym (ap scalars whole) ∙ whole_scalars (front ++ text) ok in
-            let own = front_scalars (normal front) (first ∷ left) characters in (
+            let own = (scalars_parts (normal front) (first ∷ left) characters).0 in (
               after [] (normal front),
               after_scalars [] (normal front) refl own,
               ap (elements_behind source numeric []) whole
-                  ∙ behind_boundary source numeric [] (normal front) first left b.apart.apart own (behind_scalars (normal front) (first ∷ left) characters)
+                  ∙ behind_boundary source numeric [] (normal front) first left b.apart.apart own (scalars_parts (normal front) (first ∷ left) characters).1
                   ∙ ap (λ (l : List ℕ). given front ++ elements_behind source numeric (after [] (normal front)) l) (sym here),
             )
 
-    -- what is read whatever stands before it is read so behind a front
+    -- what is read whatever stands before it is read so after a front
     pub closed_stands : (front text items : List ℕ) (last : ℕ) → EndsApart source numeric front text → All IsScalar (front ++ text)
         → IsClosed source numeric text last items → EndsWithElements source numeric front text items
     unfolding elements_within placed_behind
@@ -177,7 +164,7 @@ module _ (source : CollationSource) (numeric : Option ℕ) where
             led.2
                 ∙ ap (λ (es : List Element). given front ++ es)
                 (ap (elements_behind source numeric led.0) whole
-                ∙ h.closed.read led.0 behind led.1 (behind_scalars h.done behind (sym (ap scalars whole) ∙ text_scalars)) (fits behind refl)),
+                ∙ h.closed.read led.0 behind led.1 (scalars_parts h.done behind (sym (ap scalars whole) ∙ text_scalars)).1 (fits behind refl)),
           )
         where
           boundary : (b : BeginsWithBoundary source numeric (flat_map full chars)) → normal (chars ++ rest) ≡ b.first ∷ marks_in_order class (b.rest ++ flat_map full rest)
@@ -214,7 +201,7 @@ module _ (source : CollationSource) (numeric : Option ℕ) where
             led.2
                 ∙ ap (λ (es : List Element). given front ++ es)
                 (ap (elements_behind source numeric led.0) whole
-                ∙ read.read led.0 behind led.1 (behind_scalars (h.done ++ here) behind (sym (ap scalars whole) ∙ text_scalars)) (anything behind)),
+                ∙ read.read led.0 behind led.1 (scalars_parts (h.done ++ here) behind (sym (ap scalars whole) ∙ text_scalars)).1 (anything behind)),
           )
         where
           anything : (l : List ℕ) → MayStandBehind source numeric last l

@@ -1,4 +1,4 @@
--- Lists that are read alike whatever stands before them, since at each place they tell which prefix counts.
+-- Lists that are read alike whatever stands before them, since at each index they tell which prefix counts.
 use Rattle.std.proofs.Common.{◌≡◌, ℕ, ◌+◌, ◌<◌, ◌≤◌, leb, ltb, Bool, true, ◌&&◌, cond, List, [], ◌∷◌, ◌++◌, length, take, get_or, reverse, None, inl, inr, refl, sym, ◌∙◌, ap, subst, arith, append_assoc, length-append}
 use Rattle.std.proofs.lemmas.Bool.{cases_lt, le-leb, lt-leb}
 use Rattle.std.proofs.lemmas.List.{length-take, reverse-append}

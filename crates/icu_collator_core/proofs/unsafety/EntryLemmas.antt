@@ -5,11 +5,11 @@ use Rattle.std.proofs.lemmas.List.{get_or_default}
 use Rattle.icu_collator_core.proofs.apart.GrowthLemmas.{UpTo, item_at}
 
 module _ {X : Type 0} (Gives : X → ℕ → Type 0) (list : List X) where
-  -- what stands at a place gives it
+  -- what stands at an index gives it
   abbrev pub GivesAt : ℕ → ℕ → Type 0
   GivesAt k d = (entry : X) × ((other : X) → get_or list k other ≡ entry) × Gives entry d
 
-  -- the entry that was read is the one at the place
+  -- the entry that was read is the one at the index
   pub given_at : (k : ℕ) (entry : X) → k < length list → entry ≡ get_or list k entry → (d : ℕ) → Gives entry d ↔ GivesAt k d
   given_at k entry lt e d = (
     λ gives. (entry, (λ other. get_or_default list k other entry lt ∙ sym e), gives),

@@ -1,4 +1,4 @@
--- What is met at a place of the texts of a context.
+-- What is met at an index of the texts of a context.
 use Rattle.std.proofs.Common.{◌≡◌, ◌↔◌, ℕ, zero, suc, ℤ, ◌+◌, ◌-◌, ◌^◌, ◌<◌, ◌≤◌, Bool, true, false, cond, ◌&&◌, leb, List, [], ◌∷◌, length, get_or, slice_index, Option, Some, None, refl, ap, sym, subst, ◌∙◌, arith, ⊎_elim}
 use Rattle.std.specs.Bool.{IsTrue}
 use Rattle.std.specs.Prelude.{◌==◌, flat_map, fold}
@@ -141,19 +141,19 @@ asked_for zero first d cs few =
     let start : Met = record { count = 0; character = first } in
     let kept = stays zero cs start (omega arith) (omega (arith, few)) in
     (λ w. w.1 ∙ kept, λ e. (le-leb 0 (fold (met_with zero) start cs).count (omega arith), e ∙ sym kept))
-asked_for (suc place) first d cs few =
+asked_for (suc index) first d cs few =
     let start : Met = record { count = 0; character = first } in
-    let same : (fold (met_with (suc place)) start cs).count ≡ length cs =
-    met_count (suc place) cs start ∙ counted (suc place) cs 0 (omega (arith, few)) ∙ from_none (length cs) in
-    let at : suc place - suc 0 ≡ place = omega arith in (
+    let same : (fold (met_with (suc index)) start cs).count ≡ length cs =
+    met_count (suc index) cs start ∙ counted (suc index) cs 0 (omega (arith, few)) ∙ from_none (length cs) in
+    let at : suc index - suc 0 ≡ index = omega arith in (
       λ w.
-          let many = leb-true (suc place) (fold (met_with (suc place)) start cs).count w.0 in
-          let inside : place < length cs = omega (arith, many, same) in
-          (inside, w.1 ∙ meets (suc place) cs 0 start (omega arith) (omega (arith, inside)) (omega (arith, few)) ∙ ap (λ n. get_or cs n 0) at),
+          let many = leb-true (suc index) (fold (met_with (suc index)) start cs).count w.0 in
+          let inside : index < length cs = omega (arith, many, same) in
+          (inside, w.1 ∙ meets (suc index) cs 0 start (omega arith) (omega (arith, inside)) (omega (arith, few)) ∙ ap (λ n. get_or cs n 0) at),
       λ w.
           let inside = w.0 in (
-            le-leb (suc place) (fold (met_with (suc place)) start cs).count (omega (arith, inside, same)),
-            w.1 ∙ sym (meets (suc place) cs 0 start (omega arith) (omega (arith, inside)) (omega (arith, few)) ∙ ap (λ n. get_or cs n 0) at),
+            le-leb (suc index) (fold (met_with (suc index)) start cs).count (omega (arith, inside, same)),
+            w.1 ∙ sym (meets (suc index) cs 0 start (omega arith) (omega (arith, inside)) (omega (arith, few)) ∙ ap (λ n. get_or cs n 0) at),
           ),
     )
 
@@ -233,9 +233,9 @@ pub broken_gives_none : (pools : Pools) (many first word : ℕ) → (IsUnitTrie 
     → (d : ℕ) → ContextGives pools many first word d → ⊥
 broken_gives_none pools many first word broken d h = broken h.2.0
 
--- the texts behind a character make unsafe what stands at their places, seven at most
-pub all_places : (pools : Pools) (word d : ℕ) → UpTo (λ k e. ContextGives pools (suc k) 0 word e) 7 d ↔ ContextMakesUnsafe pools Behind word d
-all_places pools word d = (
+-- the texts after a character make unsafe what stands at their indices, seven at most
+pub all_indices : (pools : Pools) (word d : ℕ) → UpTo (λ k e. ContextGives pools (suc k) 0 word e) 7 d ↔ ContextMakesUnsafe pools Behind word d
+all_indices pools word d = (
   λ w. let g = w.2 in (
     g.0,
     g.1,

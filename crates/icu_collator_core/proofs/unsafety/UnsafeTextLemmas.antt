@@ -91,6 +91,6 @@ unsafe_by_text pools side word d ties =
     )
 
 -- no context has a word for no characters
-pub no_word_alone : (contexts : List ℕ) (place one : ℕ) → word_in_context contexts place [] ≡ Some one → ⊥
+pub no_word_alone : (contexts : List ℕ) (index one : ℕ) → word_in_context contexts index [] ≡ Some one → ⊥
 unfolding word_in_context value_of_key
-no_word_alone contexts place one h = none-some one h
+no_word_alone contexts index one h = none-some one h

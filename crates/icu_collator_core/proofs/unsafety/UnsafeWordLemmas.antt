@@ -47,7 +47,7 @@ untagged_short entry prefix contraction = record {
 
 -- ---- What a word records
 
--- a text is recorded behind a character
+-- a text is recorded after a character
 pub record RecordsBehind (entry : TableWord) (c d : ℕ) : Type 0 where
   pub later : List ℕ
   pub elements : List Element
@@ -67,7 +67,7 @@ module _ (entry : TableWord) (c : ℕ) where
   abbrev unprefixed : ℕ
   unprefixed = unprefixed_word entry.pools entry.word
 
-  -- ---- Behind
+  -- ---- After
 
   pub behind_makes_unsafe : (later : List ℕ) (es : List Element) (d : ℕ) → AreShortKeys entry → scalars later ≡ true → recorded_by entry c [] later ≡ Some es
       → Contains later d → WordMakesUnsafe entry c d

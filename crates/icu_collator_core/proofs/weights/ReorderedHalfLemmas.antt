@@ -139,18 +139,18 @@ lead_of_other reordering p rest lt same =
 -- where all primaries with its upper half get one lead, a primary gets that
 lead_of_half : (reordering : CollationReordering) (p : ℕ) → has_one_lead reordering (p / 2 ^ 16) ≡ true
     → reordered_by reordering p / 2 ^ 24 ≡ new_lead reordering (p / 2 ^ 16) 0
-lead_of_half reordering p one = by_place (same_outside reordering p)
+lead_of_half reordering p one = by_index (same_outside reordering p)
   where
     parts : (new_lead reordering (p / 2 ^ 16) 2 ≡ new_lead reordering (p / 2 ^ 16) 0) × (new_lead reordering (p / 2 ^ 16) 0xffff ≡ new_lead reordering (p / 2 ^ 16) 0)
     parts = let both = and_parts _ _ one in (eqb-true _ _ both.0, eqb-true _ _ both.1)
 
-    by_place : (is_outside reordering p ≡ is_outside reordering (p / 2 ^ 16 * 2 ^ 16 + 0))
+    by_index : (is_outside reordering p ≡ is_outside reordering (p / 2 ^ 16 * 2 ^ 16 + 0))
         ⊎ ((is_outside reordering p ≡ is_outside reordering (p / 2 ^ 16 * 2 ^ 16 + 2))
         ⊎ (is_outside reordering p ≡ is_outside reordering (p / 2 ^ 16 * 2 ^ 16 + 0xffff)))
         → reordered_by reordering p / 2 ^ 24 ≡ new_lead reordering (p / 2 ^ 16) 0
-    by_place (inl e) = lead_of_other reordering p 0 (omega arith) e
-    by_place (inr (inl e)) = lead_of_other reordering p 2 (omega arith) e ∙ parts.0
-    by_place (inr (inr e)) = lead_of_other reordering p 0xffff (omega arith) e ∙ parts.1
+    by_index (inl e) = lead_of_other reordering p 0 (omega arith) e
+    by_index (inr (inl e)) = lead_of_other reordering p 2 (omega arith) e ∙ parts.0
+    by_index (inr (inr e)) = lead_of_other reordering p 0xffff (omega arith) e ∙ parts.1
 
 -- ---- The tests decide
 

@@ -29,7 +29,7 @@ sound_read special own [] seen = sym (and_true seen.is_sound)
 sound_read special own (e ∷ es) seen =
     sound_read special own es (with_element special own seen e) ∙ and_assoc seen.is_sound (is_sound_spelled special e) (list_all (is_sound_spelled special) es)
 
--- behind an element there is none that is alone
+-- after an element there is none that is alone
 more_read : (special : CollationSpecialPrimaries) (own : Option ℕ) (e : Element) (es : List Element) (seen : Spelled) → seen.is_empty ≡ false
     → (fold (with_element special own) seen (e ∷ es)).is_own ≡ false
 more_read special own e [] seen h = ap (λ b. b && is_own_element own e) h
@@ -90,21 +90,21 @@ own_elements_read special p items =
     ∙ own_read special (Some p) (map element_of items) ∙ own_alone p (map element_of items)
 
 -- one more number of a part of a list was read, if there was one
-pub one_more : (step : Spelled → ℕ → Spelled) (seen : Spelled) (xs : List ℕ) (place i : ℕ)
-    → if_any step (fold step seen (take i (drop place xs))) (slice_get xs (place + i)) ≡ fold step seen (take (i + 1) (drop place xs))
-one_more step seen xs place i = by_place (cases_lt (place + i) (length xs))
+pub one_more : (step : Spelled → ℕ → Spelled) (seen : Spelled) (xs : List ℕ) (index i : ℕ)
+    → if_any step (fold step seen (take i (drop index xs))) (slice_get xs (index + i)) ≡ fold step seen (take (i + 1) (drop index xs))
+one_more step seen xs index i = by_index (cases_lt (index + i) (length xs))
   where
     so_far : Spelled
-    so_far = fold step seen (take i (drop place xs))
+    so_far = fold step seen (take i (drop index xs))
 
-    by_place : (place + i < length xs) ⊎ (length xs ≤ place + i)
-        → if_any step (fold step seen (take i (drop place xs))) (slice_get xs (place + i)) ≡ fold step seen (take (i + 1) (drop place xs))
-    by_place (inl lt) =
-        let inside : i < length (drop place xs) = let count = length-drop place xs in omega (arith, count, lt)
-        in ap (if_any step so_far) (slice_get-get_or xs (place + i) 0 lt)
-        ∙ ap (step so_far) (sym (get_or-drop place xs i 0))
-        ∙ sym (fold_more step seen (drop place xs) i 0 inside)
-    by_place (inr ge) =
-        let few : length (drop place xs) ≤ i = let count = length-drop place xs in omega (arith, count, ge)
-        in ap (if_any step so_far) (slice_get_past xs (place + i) ge)
-        ∙ ap (fold step seen) (take_all i (drop place xs) few ∙ sym (take_all (i + 1) (drop place xs) (omega (arith, few))))
+    by_index : (index + i < length xs) ⊎ (length xs ≤ index + i)
+        → if_any step (fold step seen (take i (drop index xs))) (slice_get xs (index + i)) ≡ fold step seen (take (i + 1) (drop index xs))
+    by_index (inl lt) =
+        let inside : i < length (drop index xs) = let count = length-drop index xs in omega (arith, count, lt)
+        in ap (if_any step so_far) (slice_get-get_or xs (index + i) 0 lt)
+        ∙ ap (step so_far) (sym (get_or-drop index xs i 0))
+        ∙ sym (fold_more step seen (drop index xs) i 0 inside)
+    by_index (inr ge) =
+        let few : length (drop index xs) ≤ i = let count = length-drop index xs in omega (arith, count, ge)
+        in ap (if_any step so_far) (slice_get_past xs (index + i) ge)
+        ∙ ap (fold step seen) (take_all i (drop index xs) few ∙ sym (take_all (i + 1) (drop index xs) (omega (arith, few))))

@@ -89,7 +89,7 @@ fn keeps_prefix_rules(
     Ok(all)
 }
 
-/// Whether a character has no suffixes by its word where no prefix counts, or what stands behind it are suffixes, of
+/// Whether a character has no suffixes by its word where no prefix counts, or what stands after it are suffixes, of
 /// which the flags of that word are true.
 fn keeps_suffix_rules(
     alloc: Global,
@@ -105,12 +105,12 @@ fn keeps_suffix_rules(
     if !has_tag(unprefixed, Tag::Contraction) {
         return Ok(true);
     }
-    let place = index_of(unprefixed);
-    let suffixes = are_suffixes(alloc, canonical, source, c, word, place)?;
+    let index = index_of(unprefixed);
+    let suffixes = are_suffixes(alloc, canonical, source, c, word, index)?;
     if !suffixes {
         return Ok(false);
     }
-    let flags = are_flags_true(alloc, canonical, &source.contexts, place, unprefixed)?;
+    let flags = are_flags_true(alloc, canonical, &source.contexts, index, unprefixed)?;
     Ok(flags)
 }
 
@@ -167,7 +167,8 @@ impl<'d, 'a> CharacterTest for ContextTest<'d, 'a> {
     }
 }
 
-/// The first character whose word breaks a rule on contexts, `None` where there is none. Fails only when out of memory.
+/// The first character whose word breaks a rule on contexts, `None` where there is none. Fails only if memory is
+/// refused.
 pub(crate) fn first_context_fault(
     alloc: Global,
     canonical: CanonicalBorrowed<'_>,

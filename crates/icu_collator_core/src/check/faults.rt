@@ -8,7 +8,7 @@ use super::TableFault;
 use super::apart::are_weights_apart;
 use super::context_rules::first_context_fault;
 use super::forms::first_word_fault;
-use super::places::first_index_fault;
+use super::indices::first_index_fault;
 use super::refused_characters::first_trie_fault;
 use super::weights::first_weight_fault;
 use crate::check_weights::{
@@ -18,7 +18,7 @@ use crate::tables::CollationTables;
 use icu_normalizer_core::canonical::CanonicalBorrowed;
 use std::alloc::{AllocError, Global};
 
-/// The first fault of the word of a character, `None` where there is none. Fails only when out of memory.
+/// The first fault of the word of a character, `None` where there is none. Fails only if memory is refused.
 fn first_character_fault(
     alloc: Global,
     canonical: CanonicalBorrowed<'_>,
@@ -44,7 +44,7 @@ fn first_character_fault(
     Ok(None)
 }
 
-/// What tables are to be refused for, `None` where they pass every check. Fails only when out of memory.
+/// What tables are to be refused for, `None` where they pass every check. Fails only if memory is refused.
 fn first_fault(
     alloc: Global,
     canonical: CanonicalBorrowed<'_>,
@@ -61,8 +61,8 @@ fn first_fault(
     if !are_sound_diacritics(tables) {
         return Ok(Some(TableFault::Diacritics));
     }
-    if let Some(place) = jamo_fault(tables) {
-        return Ok(Some(TableFault::Jamo(place)));
+    if let Some(index) = jamo_fault(tables) {
+        return Ok(Some(TableFault::Jamo(index)));
     }
     if !has_sound_reordering(tables) {
         return Ok(Some(TableFault::Reordering));

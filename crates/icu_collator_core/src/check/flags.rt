@@ -91,32 +91,32 @@ fn answered_first(question: Question) -> Answered
     }
 }
 
-/// Whether the units of the context at a place keep the grammar of unit tries, and all its keys are characters of which a
-/// question is answered yes. Fails only when out of memory.
+/// Whether the units of the context at an index keep the grammar of unit tries, and all its keys are characters of which a
+/// question is answered yes. Fails only if memory is refused.
 fn is_answered(
     alloc: Global,
     canonical: CanonicalBorrowed<'_>,
     contexts: &PackedVec<'_, u16>,
-    place: usize,
+    index: usize,
     question: Question,
 ) -> Result<bool, AllocError>
-    requires { place < 2 ^ 32 }
-    ensures { IfOk result (λ all. IsTrue all ↔ KeysPass (answer (borrowed_meaning canonical.entry) question) (trie_of contexts.now place)) }
+    requires { index < 2 ^ 32 }
+    ensures { IfOk result (λ all. IsTrue all ↔ KeysPass (answer (borrowed_meaning canonical.entry) question) (trie_of contexts.now index)) }
 {
     let test = AnswerTest {
         canonical,
         question,
     };
-    let all = keys_pass(alloc, contexts, place, &test, answered_first(question))?;
+    let all = keys_pass(alloc, contexts, index, &test, answered_first(question))?;
     Ok(all)
 }
 
 /// Whether a word has the flag of this bit.
-fn has_flag(word: u32, place: u32) -> bool
-    requires { place < 32 }
-    ensures { result ≡ has_flag place word }
+fn has_flag(word: u32, index: u32) -> bool
+    requires { index < 32 }
+    ensures { result ≡ has_flag index word }
 {
-    (word >> place) & 1 == 1
+    (word >> index) & 1 == 1
 }
 
 /// Whether a flag is set just where a fact holds.
@@ -135,20 +135,20 @@ fn are_flags_set(word: u32, all_begin: bool, one_ends: bool, one_holds: bool) ->
         && agree(has_flag(word, 11), one_holds)
 }
 
-/// Whether the flags of a contraction are true of the context at a place. Fails only when out of memory.
+/// Whether the flags of a contraction are true of the context at an index. Fails only if memory is refused.
 pub(super) fn are_flags_true(
     alloc: Global,
     canonical: CanonicalBorrowed<'_>,
     contexts: &PackedVec<'_, u16>,
-    place: usize,
+    index: usize,
     word: u32,
 ) -> Result<bool, AllocError>
-    requires { place < 2 ^ 32 }
-    ensures { IfOk result (λ yes. IsTrue yes ↔ AreFlagsTrue (borrowed_meaning canonical.entry) word (trie_of contexts.now place)) }
+    requires { index < 2 ^ 32 }
+    ensures { IfOk result (λ yes. IsTrue yes ↔ AreFlagsTrue (borrowed_meaning canonical.entry) word (trie_of contexts.now index)) }
 {
-    let all_begin = is_answered(alloc, canonical, contexts, place, Question::BeginsWithMark)?;
-    let none_ends = is_answered(alloc, canonical, contexts, place, Question::EndsInNoMark)?;
-    let none_holds = is_answered(alloc, canonical, contexts, place, Question::HoldsNoStarter)?;
+    let all_begin = is_answered(alloc, canonical, contexts, index, Question::BeginsWithMark)?;
+    let none_ends = is_answered(alloc, canonical, contexts, index, Question::EndsInNoMark)?;
+    let none_holds = is_answered(alloc, canonical, contexts, index, Question::HoldsNoStarter)?;
     let yes = are_flags_set(word, all_begin, !none_ends, !none_holds);
     Ok(yes)
 }

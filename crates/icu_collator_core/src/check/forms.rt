@@ -21,12 +21,12 @@ use icu_collator_types::elements::{CollationElement, CollationElement32, Tag};
 use icu_packed_vector::PackedVec;
 use std::alloc::{AllocError, Global};
 
-/// Whether all words of a list from a place on state elements, so many of them, or as many as there are.
-fn all_state_elements(ce32s: &PackedVec<'_, u32>, place: usize, count: usize) -> bool
-    requires { place + count < 2 ^ 32 }
-    ensures { result ≡ list_all states_element (items_at ce32s.now place count) }
+/// Whether all words of a list from an index on state elements, so many of them, or as many as there are.
+fn all_state_elements(ce32s: &PackedVec<'_, u32>, index: usize, count: usize) -> bool
+    requires { index + count < 2 ^ 32 }
+    ensures { result ≡ list_all states_element (items_at ce32s.now index count) }
 {
-    for i in place..place + count {
+    for i in index..index + count {
         match ce32s.get(i) {
             Some(word) => {
                 if !states_element(word) {
@@ -101,7 +101,7 @@ fn gives_own_words(alloc: Global, source: &CollationData<'_>, word: u32) -> Resu
     Ok(all)
 }
 
-/// Whether a word is that of a context of what stands behind.
+/// Whether a word is that of a context of what follows.
 fn is_contraction(alloc: Global, source: &CollationData<'_>, word: u32) -> Result<bool, AllocError>
     ensures { IfOk result (λ yes. IsTrue yes ↔ IsContraction (pools_of source.now) word) }
 {
@@ -214,7 +214,7 @@ impl CharacterTest for WordTest {
     }
 }
 
-/// The first character with a word of none of the forms, `None` where each has one. Fails only when out of memory.
+/// The first character with a word of none of the forms, `None` where each has one. Fails only if memory is refused.
 pub(crate) fn first_word_fault(
     alloc: Global,
     tables: &CollationTables<'_>,

@@ -60,18 +60,18 @@ impl<'d, 'a> TextTest for PrefixTest<'d, 'a> {
     }
 }
 
-/// Whether all keys of the context at a place are prefixes. Fails only when out of memory.
+/// Whether all keys of the context at an index are prefixes. Fails only if memory is refused.
 pub(super) fn are_prefixes(
     alloc: Global,
     canonical: CanonicalBorrowed<'_>,
     tables: &CollationTables<'_>,
     contexts: &PackedVec<'_, u16>,
-    place: usize,
+    index: usize,
 ) -> Result<bool, AllocError>
-    requires { place < 2 ^ 32 }
-    ensures { IfOk result (λ all. IsTrue all ↔ KeysPass (is_prefix (borrowed_meaning canonical.entry) (weights_of (borrowed_meaning canonical.entry) tables.now).digit) (trie_of contexts.now place)) }
+    requires { index < 2 ^ 32 }
+    ensures { IfOk result (λ all. IsTrue all ↔ KeysPass (is_prefix (borrowed_meaning canonical.entry) (weights_of (borrowed_meaning canonical.entry) tables.now).digit) (trie_of contexts.now index)) }
 {
     let test = PrefixTest { canonical, tables };
-    let all = keys_pass(alloc, contexts, place, &test, 0)?;
+    let all = keys_pass(alloc, contexts, index, &test, 0)?;
     Ok(all)
 }

@@ -42,12 +42,12 @@ fn says_elements(source: &CollationData<'_>, answer: TrieResult) -> bool
     }
 }
 
-/// What is known of the characters so far of a text that stands behind a character.
+/// What is known of the characters so far of a text that stands after a character.
 #[derive(Clone, Copy)]
 pub(super) struct Recorded {
     /// Where a cursor stands that was given them.
     place: CursorPlace,
-    /// They are recorded behind the character, or there are none.
+    /// They are recorded after the character, or there are none.
     is_recorded: bool,
     /// They don't end in a mark, or are recorded without it.
     is_kept: bool,
@@ -94,22 +94,22 @@ impl<'t, 'd, 'a> TextTest for RecordTest<'t, 'd, 'a> {
     }
 }
 
-/// Whether each key of the context that the word of a character names where no prefix counts is recorded behind it without
-/// its last mark, if it has two characters or more and ends in one. Fails only when out of memory.
+/// Whether each key of the context that the word of a character names where no prefix counts is recorded after it without
+/// its last mark, if it has two characters or more and ends in one. Fails only if memory is refused.
 pub(super) fn are_recorded_shorter(
     alloc: Global,
     canonical: CanonicalBorrowed<'_>,
     source: &CollationData<'_>,
     c: char,
     word: u32,
-    place: usize,
+    index: usize,
 ) -> Result<bool, AllocError>
     requires tagged { IsTrue (has_tag Contraction (unprefixed_word (pools_of source.now) word)) }
-    requires named { place ≡ index_of (unprefixed_word (pools_of source.now) word) }
-    requires place { place < 2 ^ 32 }
-    ensures { IfOk result (λ all. IsTrue all ↔ KeysPass (is_recorded_shorter (borrowed_meaning canonical.entry) (is_recorded_by (entry_in source.now word)) c) (trie_of source.now.contexts place)) }
+    requires named { index ≡ index_of (unprefixed_word (pools_of source.now) word) }
+    requires index { index < 2 ^ 32 }
+    ensures { IfOk result (λ all. IsTrue all ↔ KeysPass (is_recorded_shorter (borrowed_meaning canonical.entry) (is_recorded_by (entry_in source.now word)) c) (trie_of source.now.contexts index)) }
 {
-    let trie = Char16Trie::new(units_of(&source.contexts, place));
+    let trie = Char16Trie::new(units_of(&source.contexts, index));
     let start = Recorded {
         place: trie.iter().place(),
         is_recorded: true,
@@ -120,6 +120,6 @@ pub(super) fn are_recorded_shorter(
         source,
         trie: &trie,
     };
-    let all = keys_pass(alloc, &source.contexts, place, &test, start)?;
+    let all = keys_pass(alloc, &source.contexts, index, &test, start)?;
     Ok(all)
 }

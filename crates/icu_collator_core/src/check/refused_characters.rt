@@ -17,7 +17,7 @@ pub(crate) trait CharacterTest {
     /// The word that data have for a character passes, in the root or in the tailoring.
     ghost Passes: { Self → Layer → CollationData → ℕ → Type 0 };
 
-    /// Whether the word of a character passes. Fails only when out of memory.
+    /// Whether the word of a character passes. Fails only if memory is refused.
     fn passes(
         &self,
         alloc: Global,
@@ -27,7 +27,7 @@ pub(crate) trait CharacterTest {
     ) -> Result<bool, AllocError>
         ensures { IfOk result (λ yes. IsTrue yes ↔ Passes self.now layer source.now c) };
 
-    /// Where a walk over all codes goes on behind this one: the words of those before it pass.
+    /// Where a walk over all codes goes on after this one: the words of those before it pass.
     fn next_code(&self, layer: Layer, source: &CollationData<'_>, code: u32) -> u32
         requires { code < 0x11_0000 }
         ensures onward { code < result }
@@ -126,7 +126,7 @@ impl CharacterTest for CellTest {
     }
 }
 
-/// The first character without a word, `None` where each has one. Fails only when out of memory.
+/// The first character without a word, `None` where each has one. Fails only if memory is refused.
 pub(crate) fn first_trie_fault(
     alloc: Global,
     tables: &CollationTables<'_>,

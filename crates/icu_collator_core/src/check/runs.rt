@@ -1,4 +1,4 @@
-//! Runs of characters that have one word, and where a walk over all characters goes on behind them.
+//! Runs of characters that have one word, and where a walk over all characters goes on after them.
 
 ghost use Rattle.std.specs.Prelude.{◌≡◌, ◌<◌, ◌≤◌, ℕ, IsTrue};
 ghost use Rattle.icu_collator_core.specs.TableMeaning.{word_at};
@@ -17,7 +17,7 @@ fn records_nothing(layer: Layer, word: u32) -> bool
     word == IMPLICIT_CE32 || is_fallback(layer, word)
 }
 
-/// The code behind the run of codes that have the word of this one.
+/// The code after the run of codes that have the word of this one.
 pub(crate) fn behind_run(source: &CollationData<'_>, code: u32) -> u32
     requires { code < 0x11_0000 }
     ensures onward { code < result }
@@ -30,7 +30,7 @@ pub(crate) fn behind_run(source: &CollationData<'_>, code: u32) -> u32
     }
 }
 
-/// The code behind the run where its word records nothing, else the next one.
+/// The code after the run where its word records nothing, else the next one.
 pub(super) fn behind_unrecorded(layer: Layer, source: &CollationData<'_>, code: u32) -> u32
     requires { code < 0x11_0000 }
     ensures onward { code < result }

@@ -1,4 +1,4 @@
-//! Texts that stand behind a character.
+//! Texts that stand after a character.
 
 ghost use Rattle.std.specs.Prelude.{◌≡◌, ◌^◌, ◌<◌, ◌∷◌, ◌↔◌, IsTrue, IfOk};
 ghost use Rattle.icu_normalizer_core.specs.BorrowedMeaning.{borrowed_meaning};
@@ -42,13 +42,13 @@ impl TextTest for ShortTest {
     }
 }
 
-/// Whether all keys of the context at a place have at most seven characters. Fails only when out of memory.
-fn are_short(alloc: Global, contexts: &PackedVec<'_, u16>, place: usize) -> Result<bool, AllocError>
-    requires { place < 2 ^ 32 }
-    ensures { IfOk result (λ all. IsTrue all ↔ KeysPass is_short (trie_of contexts.now place)) }
+/// Whether all keys of the context at an index have at most seven characters. Fails only if memory is refused.
+fn are_short(alloc: Global, contexts: &PackedVec<'_, u16>, index: usize) -> Result<bool, AllocError>
+    requires { index < 2 ^ 32 }
+    ensures { IfOk result (λ all. IsTrue all ↔ KeysPass is_short (trie_of contexts.now index)) }
 {
     let test = ShortTest;
-    let all = keys_pass(alloc, contexts, place, &test, 0)?;
+    let all = keys_pass(alloc, contexts, index, &test, 0)?;
     Ok(all)
 }
 
@@ -57,9 +57,9 @@ fn are_short(alloc: Global, contexts: &PackedVec<'_, u16>, place: usize) -> Resu
 pub(super) enum Order {
     /// There are starters alone.
     Starters,
-    /// A mark stands last, and marks alone stand behind a mark.
+    /// A mark stands last, and marks alone stand after a mark.
     Marks,
-    /// A starter stands behind a mark.
+    /// A starter stands after a mark.
     Mixed,
 }
 
@@ -113,47 +113,47 @@ impl<'d> TextTest for OrderTest<'d> {
     }
 }
 
-/// Whether only marks stand after a mark in all keys of the context at a place, behind a character. Fails only when out of
-/// memory.
+/// Whether only marks stand after a mark in all keys of the context at an index, after a character. Fails only if memory is
+/// refused.
 fn have_marks_last(
     alloc: Global,
     canonical: CanonicalBorrowed<'_>,
     contexts: &PackedVec<'_, u16>,
     c: char,
-    place: usize,
+    index: usize,
 ) -> Result<bool, AllocError>
-    requires { place < 2 ^ 32 }
-    ensures { IfOk result (λ all. IsTrue all ↔ KeysPass (λ cs. has_marks_last (borrowed_meaning canonical.entry) (c ∷ cs)) (trie_of contexts.now place)) }
+    requires { index < 2 ^ 32 }
+    ensures { IfOk result (λ all. IsTrue all ↔ KeysPass (λ cs. has_marks_last (borrowed_meaning canonical.entry) (c ∷ cs)) (trie_of contexts.now index)) }
 {
     let test = OrderTest { canonical };
     let start = test.fold_character(Order::Starters, c);
-    let all = keys_pass(alloc, contexts, place, &test, start)?;
+    let all = keys_pass(alloc, contexts, index, &test, start)?;
     Ok(all)
 }
 
 /// Whether all keys of the context that the word of a character names where no prefix counts are suffixes of it. Fails only
-/// when out of memory.
+/// if memory is refused.
 pub(super) fn are_suffixes(
     alloc: Global,
     canonical: CanonicalBorrowed<'_>,
     source: &CollationData<'_>,
     c: char,
     word: u32,
-    place: usize,
+    index: usize,
 ) -> Result<bool, AllocError>
     requires tagged { IsTrue (has_tag Contraction (unprefixed_word (pools_of source.now) word)) }
-    requires named { place ≡ index_of (unprefixed_word (pools_of source.now) word) }
-    requires place { place < 2 ^ 32 }
-    ensures { IfOk result (λ all. IsTrue all ↔ KeysPass (is_suffix (borrowed_meaning canonical.entry) (is_recorded_by (entry_in source.now word)) c) (trie_of source.now.contexts place)) }
+    requires named { index ≡ index_of (unprefixed_word (pools_of source.now) word) }
+    requires index { index < 2 ^ 32 }
+    ensures { IfOk result (λ all. IsTrue all ↔ KeysPass (is_suffix (borrowed_meaning canonical.entry) (is_recorded_by (entry_in source.now word)) c) (trie_of source.now.contexts index)) }
 {
-    let short = are_short(alloc, &source.contexts, place)?;
+    let short = are_short(alloc, &source.contexts, index)?;
     if !short {
         return Ok(false);
     }
-    let last = have_marks_last(alloc, canonical, &source.contexts, c, place)?;
+    let last = have_marks_last(alloc, canonical, &source.contexts, c, index)?;
     if !last {
         return Ok(false);
     }
-    let recorded = are_recorded_shorter(alloc, canonical, source, c, word, place)?;
+    let recorded = are_recorded_shorter(alloc, canonical, source, c, word, index)?;
     Ok(recorded)
 }

@@ -43,19 +43,19 @@ pub(super) trait ValueTest {
         ensures { result ≡ test self.now word };
 }
 
-/// The values of the context at a place, in any order. `None` where its units break the grammar of unit tries. Fails only
-/// when out of memory.
+/// The values of the context at an index, in any order. `None` where its units break the grammar of unit tries. Fails only
+/// if memory is refused.
 pub(crate) fn values_of(
     alloc: Global,
     contexts: &PackedVec<'_, u16>,
-    place: usize,
+    index: usize,
 ) -> Result<Option<Vec<((), i32)>>, AllocError>
-    requires { place < 2 ^ 32 }
-    ensures values { IfOk result (λ found. MatchOption found (IsUnitTrie (trie_of contexts.now place) → ⊥)
-        (λ values. AreFolded keeps_nothing tt (trie_of contexts.now place) values.items)) }
+    requires { index < 2 ^ 32 }
+    ensures values { IfOk result (λ found. MatchOption found (IsUnitTrie (trie_of contexts.now index) → ⊥)
+        (λ values. AreFolded keeps_nothing tt (trie_of contexts.now index) values.items)) }
     ensures bound { length contexts.now < 2 ^ 64 }
 {
-    let units = units_of(contexts, place);
+    let units = units_of(contexts, index);
     let fold = NoKey;
     let found = fold_keys(alloc, &units, &fold, ())?;
     Ok(found)
@@ -65,8 +65,8 @@ pub(crate) fn values_of(
 fn all_pass<T: ValueTest>(values: &Vec<((), i32)>, test: &T) -> bool
     ensures { IsTrue result ↔ ((value : ⊤ × ℤ) → Contains values.now.items value → IsTrue (T.test test.now (cast_unsigned w32 value.1))) }
 {
-    for place in 0..values.len() {
-        let value = values[place].1;
+    for index in 0..values.len() {
+        let value = values[index].1;
         if !test.passes(value.cast_unsigned()) {
             return false;
         }
@@ -74,18 +74,18 @@ fn all_pass<T: ValueTest>(values: &Vec<((), i32)>, test: &T) -> bool
     true
 }
 
-/// Whether all values of the context at a place pass a test. Where its units break the grammar of unit tries, there are
-/// none. Fails only when out of memory.
+/// Whether all values of the context at an index pass a test. Where its units break the grammar of unit tries, there are
+/// none. Fails only if memory is refused.
 pub(super) fn values_pass<T: ValueTest>(
     alloc: Global,
     contexts: &PackedVec<'_, u16>,
-    place: usize,
+    index: usize,
     test: &T,
 ) -> Result<bool, AllocError>
-    requires { place < 2 ^ 32 }
-    ensures { IfOk result (λ all. IsTrue all ↔ EntriesPass (by_word (T.test test.now)) (trie_of contexts.now place)) }
+    requires { index < 2 ^ 32 }
+    ensures { IfOk result (λ all. IsTrue all ↔ EntriesPass (by_word (T.test test.now)) (trie_of contexts.now index)) }
 {
-    let found = values_of(alloc, contexts, place)?;
+    let found = values_of(alloc, contexts, index)?;
     match found {
         Some(values) => Ok(all_pass(&values, test)),
         None => Ok(true),

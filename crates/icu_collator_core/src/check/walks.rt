@@ -48,13 +48,13 @@ pub(crate) trait TextTest {
 pub(crate) enum Reading<S> {
     /// They are whole characters, folded to this.
     Whole(S),
-    /// The same, and the upper half of a character behind them.
+    /// The same, and the upper half of a character after them.
     Half(S, u16),
     /// A half stands alone among them.
     Broken,
 }
 
-/// What a unit behind whole characters makes of them.
+/// What a unit after whole characters makes of them.
 fn read_first<T: TextTest>(test: &T, folded: T::Folded, unit: u16) -> Reading<T::Folded>
     ensures { result ≡ read_unit (T.onward test.now) (Whole folded) unit }
 {
@@ -70,7 +70,7 @@ fn read_first<T: TextTest>(test: &T, folded: T::Folded, unit: u16) -> Reading<T:
     }
 }
 
-/// What a unit behind an upper half makes of it.
+/// What a unit after an upper half makes of it.
 fn read_second<T: TextTest>(
     test: &T,
     folded: T::Folded,
@@ -118,21 +118,21 @@ impl<'t, T: TextTest> KeyFold for UnitFold<'t, T> {
     }
 }
 
-/// What the units of each key of the context at a place come to, with the value of the key, in any order. `None` where the
-/// units break the grammar of unit tries. Fails only when out of memory.
+/// What the units of each key of the context at an index come to, with the value of the key, in any order. `None` where the
+/// units break the grammar of unit tries. Fails only if memory is refused.
 fn readings_of<T: TextTest>(
     alloc: Global,
     contexts: &PackedVec<'_, u16>,
-    place: usize,
+    index: usize,
     test: &T,
     start: T::Folded,
 ) -> Result<Option<Vec<(Reading<T::Folded>, i32)>>, AllocError>
-    requires { place < 2 ^ 32 }
-    ensures readings { IfOk result (λ found. MatchOption found (IsUnitTrie (trie_of contexts.now place) → ⊥)
-        (λ readings. AreFolded (read_unit (T.onward test.now)) (Whole start) (trie_of contexts.now place) readings.items)) }
+    requires { index < 2 ^ 32 }
+    ensures readings { IfOk result (λ found. MatchOption found (IsUnitTrie (trie_of contexts.now index) → ⊥)
+        (λ readings. AreFolded (read_unit (T.onward test.now)) (Whole start) (trie_of contexts.now index) readings.items)) }
     ensures bound { length contexts.now < 2 ^ 64 }
 {
-    let units = units_of(contexts, place);
+    let units = units_of(contexts, index);
     let fold = UnitFold { test };
     let found = fold_keys(alloc, &units, &fold, Reading::Whole(start))?;
     Ok(found)
@@ -152,27 +152,27 @@ fn is_passed<T: TextTest>(test: &T, reading: Reading<T::Folded>) -> bool
 fn are_passed<T: TextTest>(test: &T, readings: &Vec<(Reading<T::Folded>, i32)>) -> bool
     ensures { IsTrue result ↔ ((one : Reading T.Folded × ℤ) → Contains readings.now.items one → IsTrue (tells (T.test test.now) one.0)) }
 {
-    for place in 0..readings.len() {
-        if !is_passed(test, readings[place].0) {
+    for index in 0..readings.len() {
+        if !is_passed(test, readings[index].0) {
             return false;
         }
     }
     true
 }
 
-/// Whether the units of the context at a place keep the grammar of unit tries, and the characters of all its keys pass a
-/// test, folded from this start on. Fails only when out of memory.
+/// Whether the units of the context at an index keep the grammar of unit tries, and the characters of all its keys pass a
+/// test, folded from this start on. Fails only if memory is refused.
 pub(super) fn keys_pass<T: TextTest>(
     alloc: Global,
     contexts: &PackedVec<'_, u16>,
-    place: usize,
+    index: usize,
     test: &T,
     start: T::Folded,
 ) -> Result<bool, AllocError>
-    requires { place < 2 ^ 32 }
-    ensures { IfOk result (λ all. IsTrue all ↔ KeysPass (by_fold (T.test test.now) (T.onward test.now) start) (trie_of contexts.now place)) }
+    requires { index < 2 ^ 32 }
+    ensures { IfOk result (λ all. IsTrue all ↔ KeysPass (by_fold (T.test test.now) (T.onward test.now) start) (trie_of contexts.now index)) }
 {
-    let found = readings_of(alloc, contexts, place, test, start)?;
+    let found = readings_of(alloc, contexts, index, test, start)?;
     match found {
         Some(readings) => Ok(are_passed(test, &readings)),
         None => Ok(false),

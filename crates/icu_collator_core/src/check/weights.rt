@@ -124,8 +124,8 @@ impl<'d, 'a> CharacterTest for WeightTest<'d, 'a> {
     }
 }
 
-/// The first character with a word that spells what breaks a rule on weights, `None` where there is none. Fails
-/// only when out of memory.
+/// The first character with a word that spells what breaks a rule on weights, `None` where there is none. Fails only if
+/// memory is refused.
 pub(crate) fn first_weight_fault(
     alloc: Global,
     tables: &CollationTables<'_>,

@@ -30,8 +30,8 @@ fn is_sound_diacritic(secondary: u16) -> bool
 fn are_all_sound(secondaries: &PackedVec<'_, u16>) -> bool
     ensures { result ≡ list_all is_sound_diacritic secondaries.now }
 {
-    for place in 0..secondaries.len() {
-        if !is_sound_diacritic(secondaries.at(place)) {
+    for index in 0..secondaries.len() {
+        if !is_sound_diacritic(secondaries.at(index)) {
             return false;
         }
     }

@@ -14,23 +14,23 @@ const JAMO_COUNT: usize = 256;
 
 /// Whether the word of a jamo states an element that keeps the rules, or the one that the jamo has by itself.
 #[tactic(auto, unfolding(crate::specs::WeightFaults::is_sound_jamo))]
-fn is_sound_jamo(tables: &CollationTables<'_>, place: usize) -> bool
+fn is_sound_jamo(tables: &CollationTables<'_>, index: usize) -> bool
     requires count { length tables.now.jamo.ce32s ≡ jamo_count }
-    requires inside { place < jamo_count }
-    ensures { result ≡ is_sound_jamo tables.now place }
+    requires inside { index < jamo_count }
+    ensures { result ≡ is_sound_jamo tables.now index }
 {
-    let word = tables.jamo.ce32s.at(place);
+    let word = tables.jamo.ce32s.at(index);
     if !states_element(word) {
         return false;
     }
     let Some(element) = stated_element(word) else {
         return false;
     };
-    let own = own_primary(0x1100 + place as u32);
+    let own = own_primary(0x1100 + index as u32);
     is_sound_lone(&tables.special_primaries, Some(own), element)
 }
 
-/// The least place of a jamo whose word states no sound element, `None` where there is none. Of a table that
+/// The least index of a jamo whose word states no sound element, `None` where there is none. Of a table that
 /// doesn't have as many words as there are jamo it is the end, or that of as many words.
 pub(crate) fn jamo_fault(tables: &CollationTables<'_>) -> Option<usize>
     ensures { MatchOption result (AreSoundJamo tables.now) (IsJamoFault tables.now) }
@@ -39,9 +39,9 @@ pub(crate) fn jamo_fault(tables: &CollationTables<'_>) -> Option<usize>
     if count != JAMO_COUNT {
         return Some(count.min(JAMO_COUNT));
     }
-    for place in 0..JAMO_COUNT {
-        if !is_sound_jamo(tables, place) {
-            return Some(place);
+    for index in 0..JAMO_COUNT {
+        if !is_sound_jamo(tables, index) {
+            return Some(index);
         }
     }
     None

@@ -22,15 +22,15 @@ fn read_words(
     special: &CollationSpecialPrimaries<'_>,
     ce32s: &PackedVec<'_, u32>,
     own: Option<u32>,
-    place: usize,
+    index: usize,
     count: usize,
 ) -> Spelled
-    requires { place + count < 2 ^ 32 }
-    ensures { result ≡ fold (with_word special.now own) nothing_read (items_at ce32s.now place count) }
+    requires { index + count < 2 ^ 32 }
+    ensures { result ≡ fold (with_word special.now own) nothing_read (items_at ce32s.now index count) }
 {
     let mut seen = Spelled::new();
     for i in 0..count {
-        seen = seen.with_word(special, own, ce32s.get(place + i));
+        seen = seen.with_word(special, own, ce32s.get(index + i));
     }
     seen
 }
@@ -41,13 +41,13 @@ fn are_sound_words(
     special: &CollationSpecialPrimaries<'_>,
     ce32s: &PackedVec<'_, u32>,
     own: Option<u32>,
-    place: usize,
+    index: usize,
     count: usize,
 ) -> bool
-    requires { place + count < 2 ^ 32 }
-    ensures { result ≡ are_sound_spelled special.now own (filter_map stated_element (items_at ce32s.now place count)) }
+    requires { index + count < 2 ^ 32 }
+    ensures { result ≡ are_sound_spelled special.now own (filter_map stated_element (items_at ce32s.now index count)) }
 {
-    read_words(special, ce32s, own, place, count).passes()
+    read_words(special, ce32s, own, index, count).passes()
 }
 
 /// What is known of the elements of an expansion.
@@ -55,15 +55,15 @@ fn read_elements(
     special: &CollationSpecialPrimaries<'_>,
     ces: &PackedVec<'_, u64>,
     own: Option<u32>,
-    place: usize,
+    index: usize,
     count: usize,
 ) -> Spelled
-    requires { place + count < 2 ^ 32 }
-    ensures { result ≡ fold (with_bits special.now own) nothing_read (items_at ces.now place count) }
+    requires { index + count < 2 ^ 32 }
+    ensures { result ≡ fold (with_bits special.now own) nothing_read (items_at ces.now index count) }
 {
     let mut seen = Spelled::new();
     for i in 0..count {
-        seen = seen.with_bits(special, own, ces.get(place + i));
+        seen = seen.with_bits(special, own, ces.get(index + i));
     }
     seen
 }
@@ -74,13 +74,13 @@ fn are_sound_elements(
     special: &CollationSpecialPrimaries<'_>,
     ces: &PackedVec<'_, u64>,
     own: Option<u32>,
-    place: usize,
+    index: usize,
     count: usize,
 ) -> bool
-    requires { place + count < 2 ^ 32 }
-    ensures { result ≡ are_sound_spelled special.now own (map element_of (items_at ces.now place count)) }
+    requires { index + count < 2 ^ 32 }
+    ensures { result ≡ are_sound_spelled special.now own (map element_of (items_at ces.now index count)) }
 {
-    read_elements(special, ces, own, place, count).passes()
+    read_elements(special, ces, own, index, count).passes()
 }
 
 /// The same of the element that a word states, if it states one.
@@ -106,13 +106,13 @@ pub(crate) fn is_sound_word(
     requires { c < 0x110000 }
     ensures { result ≡ is_sound_word special.now (pools_of source.now) own c word }
 {
-    let place = index_of(word);
+    let index = index_of(word);
     if has_tag(word, Tag::Offset) {
-        is_sound_offset(special, entry_at(&source.ces, place), c)
+        is_sound_offset(special, entry_at(&source.ces, index), c)
     } else if has_tag(word, Tag::Expansion32) {
-        are_sound_words(special, &source.ce32s, own, place, length_of(word))
+        are_sound_words(special, &source.ce32s, own, index, length_of(word))
     } else if has_tag(word, Tag::Expansion) {
-        are_sound_elements(special, &source.ces, own, place, length_of(word))
+        are_sound_elements(special, &source.ces, own, index, length_of(word))
     } else {
         is_sound_stated(special, own, word)
     }
@@ -124,13 +124,13 @@ fn are_own_words(
     special: &CollationSpecialPrimaries<'_>,
     ce32s: &PackedVec<'_, u32>,
     c: u32,
-    place: usize,
+    index: usize,
     count: usize,
 ) -> bool
-    requires { place + count < 2 ^ 32 }
-    ensures { result ≡ is_primary_alone (own_primary c) (filter_map stated_element (items_at ce32s.now place count)) }
+    requires { index + count < 2 ^ 32 }
+    ensures { result ≡ is_primary_alone (own_primary c) (filter_map stated_element (items_at ce32s.now index count)) }
 {
-    read_words(special, ce32s, Some(own_primary(c)), place, count).is_own()
+    read_words(special, ce32s, Some(own_primary(c)), index, count).is_own()
 }
 
 /// Whether the elements of an expansion are that one alone.
@@ -139,13 +139,13 @@ fn are_own_elements(
     special: &CollationSpecialPrimaries<'_>,
     ces: &PackedVec<'_, u64>,
     c: u32,
-    place: usize,
+    index: usize,
     count: usize,
 ) -> bool
-    requires { place + count < 2 ^ 32 }
-    ensures { result ≡ is_primary_alone (own_primary c) (map element_of (items_at ces.now place count)) }
+    requires { index + count < 2 ^ 32 }
+    ensures { result ≡ is_primary_alone (own_primary c) (map element_of (items_at ces.now index count)) }
 {
-    read_elements(special, ces, Some(own_primary(c)), place, count).is_own()
+    read_elements(special, ces, Some(own_primary(c)), index, count).is_own()
 }
 
 /// Whether a word states an element other than that one.
@@ -169,13 +169,13 @@ pub(crate) fn has_other_elements(
 ) -> bool
     ensures { result ≡ are_others c (elements_of_word (pools_of source.now) word) }
 {
-    let place = index_of(word);
+    let index = index_of(word);
     if word == 0 {
         true
     } else if has_tag(word, Tag::Expansion32) {
-        !are_own_words(special, &source.ce32s, c, place, length_of(word))
+        !are_own_words(special, &source.ce32s, c, index, length_of(word))
     } else if has_tag(word, Tag::Expansion) {
-        !are_own_elements(special, &source.ces, c, place, length_of(word))
+        !are_own_elements(special, &source.ces, c, index, length_of(word))
     } else {
         states_other(c, word)
     }

@@ -61,8 +61,8 @@ impl<'t, 'a, I: Iterator<Item = char> + Drop> CollationElements<'t, 'a, I> {
         }
     }
 
-    /// Puts a character before all that is to be read, before `init`. Fails only when out of memory, and then no element is
-    /// to come, whatever is called: `next` gives the element that ends a text, for ever.
+    /// Puts a character before all that is to be read, before `init`. Fails only if memory is refused, and then no element
+    /// is to come, whatever is called: `next` gives the element that ends a text, for ever.
     pub fn prepend_upcoming_before_init(&mut self, c: char) -> Result<(), AllocError>
         requires ready { CanBegin I.can_next I.remaining self.old }
         ensures before { (before rest : List ℕ) → IsBefore I.next_gives self.old before rest → OnOk result (IsBefore I.next_gives self.new (c ∷ before) rest) }
@@ -84,8 +84,8 @@ impl<'t, 'a, I: Iterator<Item = char> + Drop> CollationElements<'t, 'a, I> {
         }
     }
 
-    /// Decomposes the text. Fails only when out of memory, and then no element is to come: `next` gives the element that
-    /// ends a text, for ever. After a refused `prepend_upcoming_before_init` it does nothing.
+    /// Decomposes the text. Fails only if memory is refused, and then no element is to come: `next` gives the element
+    /// that ends a text, for ever. After a refused `prepend_upcoming_before_init` it does nothing.
     pub fn init(&mut self) -> Result<(), AllocError>
         requires ready { CanBegin I.can_next I.remaining self.old }
         ensures elements { (before rest : List ℕ) → IsBefore I.next_gives self.old before rest
@@ -102,8 +102,8 @@ impl<'t, 'a, I: Iterator<Item = char> + Drop> CollationElements<'t, 'a, I> {
         Ok(())
     }
 
-    /// The next element, after `init`; behind the last, and after want of memory, the element that ends a text,
-    /// `CollationElement::default()`, for ever. Fails only when out of memory.
+    /// The next element, after `init`; after the last, and after refused memory, the element that ends a text,
+    /// `CollationElement::default()`, for ever. Fails only if memory is refused.
     #[inline]
     pub fn next(&mut self) -> Result<CollationElement, AllocError>
         ensures first { IfOk result (λ bits. GivesElement (elements_to_come self.old) bits (elements_to_come self.new)) }

@@ -23,10 +23,10 @@ pub(crate) struct Reader<'t, 'a> {
     checked: &'t CheckedTables<'a>,
     numeric: Option<u8>,
     list: SmallVec<char, 64>,
-    place: usize,
+    index: usize,
     ready: SmallVec<CollationElement, 32>,
     given: usize,
-    ghost within: { place ≤ small_vec_len list },
+    ghost within: { index ≤ small_vec_len list },
     ghost counted: { given ≤ small_vec_len ready },
     ghost characters: { scalars list.items ≡ true },
 }
@@ -38,7 +38,7 @@ impl Drop for Reader<'_, '_> {
             checked: _,
             numeric: _,
             list: _,
-            place: _,
+            index: _,
             ready: _,
             given: _,
         } = self;
@@ -62,14 +62,14 @@ impl<'t, 'a> Reader<'t, 'a> {
             checked,
             numeric,
             list: SmallVec::new(alloc),
-            place: 0,
+            index: 0,
             ready: SmallVec::new(alloc),
             given: 0,
         }
     }
 
-    /// Takes the text that an iterator gives in place of what it had, and decomposes it. Fails only when out of memory, and
-    /// then the text has ended.
+    /// Takes the text that an iterator gives in place of what it had, and decomposes it. Fails only if memory is refused,
+    /// and then the text has ended.
     pub(crate) fn begin<I: Iterator<Item = char> + Drop>(
         &mut self,
         chars: I,
@@ -84,7 +84,7 @@ impl<'t, 'a> Reader<'t, 'a> {
     {
         self.given = 0;
         self.ready.clear();
-        self.place = 0;
+        self.index = 0;
         let canonical = self.checked.canonical();
         decompose_into(canonical, chars, &mut self.list)
     }
@@ -97,38 +97,39 @@ impl<'t, 'a> Reader<'t, 'a> {
     {
         self.given = 0;
         self.ready.clear();
-        self.place = self.list.len();
+        self.index = self.list.len();
     }
 
-    /// Reads the next characters, where all elements that were ready are given. Fails only when out of memory.
+    /// Reads the next characters, where all elements that were ready are given. Fails only if memory is refused.
     fn read(&mut self) -> Result<(), AllocError>
-        requires more { self.old.place < small_vec_len self.old.list }
+        requires more { self.old.index < small_vec_len self.old.list }
         requires given { self.old.given ≡ small_vec_len self.old.ready }
         ensures same { ReadsOn self.old self.new }
         ensures left { OnOk result (elements_left self.new ≡ elements_left self.old) }
-        ensures nearer { OnOk result (small_vec_len self.new.list - self.new.place < small_vec_len self.old.list - self.old.place) }
+        ensures nearer { OnOk result (small_vec_len self.new.list - self.new.index < small_vec_len self.old.list - self.old.index) }
     {
         self.given = 0;
         self.ready.clear();
-        self.place = read_run(
+        self.index = read_run(
             self.checked,
             self.numeric,
             &mut self.list,
-            self.place,
+            self.index,
             &mut self.ready,
         )?;
         Ok(())
     }
 
-    /// Reads on until an element is ready, or the text ends. Fails only when out of memory, and never where it has ended.
+    /// Reads on until an element is ready, or the text ends. Fails only if memory is refused, and never where it has
+    /// ended.
     fn fill(&mut self) -> Result<(), AllocError>
         ensures same { ReadsOn self.old self.new }
         ensures left { OnOk result (elements_left self.new ≡ elements_left self.old) }
-        ensures ready { OnOk result (self.new.given ≡ small_vec_len self.new.ready → self.new.place ≡ small_vec_len self.new.list) }
+        ensures ready { OnOk result (self.new.given ≡ small_vec_len self.new.ready → self.new.index ≡ small_vec_len self.new.list) }
         ensures past { HasEnded self.old → IsOk result }
         ensures stays { HasEnded self.old → HasEnded self.new }
     {
-        'reading: while self.given == self.ready.len() && self.place < self.list.len() {
+        'reading: while self.given == self.ready.len() && self.index < self.list.len() {
             self.read()?;
         }
         Ok(())
@@ -140,7 +141,7 @@ impl<'t, 'a> Reader<'t, 'a> {
     fn refill(&mut self) -> Result<(), AllocError>
         ensures same { ReadsOn self.old self.new }
         ensures left { OnOk result (elements_left self.new ≡ elements_left self.old) }
-        ensures ready { OnOk result (self.new.given ≡ small_vec_len self.new.ready → self.new.place ≡ small_vec_len self.new.list) }
+        ensures ready { OnOk result (self.new.given ≡ small_vec_len self.new.ready → self.new.index ≡ small_vec_len self.new.list) }
         ensures none { OnErr result (elements_left self.new ≡ []) }
         ensures ended { OnErr result (HasEnded self.new) }
         ensures past { HasEnded self.old → IsOk result }
@@ -156,7 +157,7 @@ impl<'t, 'a> Reader<'t, 'a> {
     /// Gives the first element that is ready; `None` where the text has ended.
     #[inline]
     fn give(&mut self) -> Option<CollationElement>
-        requires { self.old.given ≡ small_vec_len self.old.ready → self.old.place ≡ small_vec_len self.old.list }
+        requires { self.old.given ≡ small_vec_len self.old.ready → self.old.index ≡ small_vec_len self.old.list }
         ensures same { ReadsOn self.old self.new }
         ensures left { MatchOption result ((elements_left self.old ≡ []) × (elements_left self.new ≡ [])) (λ bits. elements_left self.old ≡ element_of bits ∷ elements_left self.new) }
         ensures ended { result ≡ None → HasEnded self.new }
@@ -170,8 +171,8 @@ impl<'t, 'a> Reader<'t, 'a> {
         Some(element)
     }
 
-    /// The next element; `None` where none is left, and then for ever. Fails only when out of memory, and then the text has
-    /// ended.
+    /// The next element; `None` where none is left, and then for ever. Fails only if memory is refused, and then the text
+    /// has ended.
     #[inline]
     pub(crate) fn next(&mut self) -> Result<Option<CollationElement>, AllocError>
         ensures same { ReadsOn self.old self.new }

@@ -7,7 +7,7 @@ ghost use Rattle.icu_normalizer_core.specs.Iter.{Spells};
 use smallvec::SmallVec;
 use std::alloc::{AllocError, Global};
 
-/// Characters that were put before an iterator's, the last one first, and the iterator's behind them.
+/// Characters that were put before an iterator's, the last one first, and the iterator's after them.
 #[derive(Debug, Drop)]
 pub(super) struct Upcoming<I> {
     first: SmallVec<char, 4>,

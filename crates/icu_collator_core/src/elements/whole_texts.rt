@@ -21,7 +21,7 @@ use icu_normalizer_core::canonical::CanonicalBorrowed;
 use smallvec::SmallVec;
 use std::alloc::{AllocError, Global};
 
-/// The decomposed list of the characters that an iterator gives. Fails only when out of memory.
+/// The decomposed list of the characters that an iterator gives. Fails only if memory is refused.
 pub fn decomposed_list<I: Iterator<Item = char> + Drop>(
     alloc: Global,
     canonical: CanonicalBorrowed<'_>,
@@ -37,25 +37,25 @@ pub fn decomposed_list<I: Iterator<Item = char> + Drop>(
     Ok(list)
 }
 
-/// Reads the characters from a place of a list on that are read alone, and then the next one, with what is read with it:
-/// appends their elements, and answers where what is left begins. Fails only when out of memory.
+/// Reads the characters from an index of a list on that are read alone, and then the next one, with what is read with it:
+/// appends their elements, and answers where what is left begins. Fails only if memory is refused.
 fn push_next(
     checked: &CheckedTables<'_>,
     numeric: Option<u8>,
     list: &mut SmallVec<char, 64>,
-    place: usize,
+    index: usize,
     elements: &mut SmallVec<CollationElement, 32>,
 ) -> Result<usize, AllocError>
-    requires inside { place < small_vec_len list.old }
+    requires inside { index < small_vec_len list.old }
     requires characters { scalars list.old.items ≡ true }
-    ensures read { IfOk result (λ next. IsRead (canonical_by checked.now) (weights_by numeric checked.now) (is_some numeric) list.old.items place (unpacked elements.old.items) list.new.items next (unpacked elements.new.items)) }
+    ensures read { IfOk result (λ next. IsRead (canonical_by checked.now) (weights_by numeric checked.now) (is_some numeric) list.old.items index (unpacked elements.old.items) list.new.items next (unpacked elements.new.items)) }
     ensures kept { scalars list.new.items ≡ true }
     ensures same_length { small_vec_len list.new ≡ small_vec_len list.old }
-    ensures onward { IfOk result (λ next. place < next) }
+    ensures onward { IfOk result (λ next. index < next) }
     ensures within { IfOk result (λ next. next ≤ small_vec_len list.old) }
 {
     let end = list.len();
-    let next = push_alone(checked, list, place, end, elements)?;
+    let next = push_alone(checked, list, index, end, elements)?;
     if next == end {
         return Ok(next);
     }
@@ -63,7 +63,7 @@ fn push_next(
     Ok(after)
 }
 
-/// Appends the elements of a decomposed list, whose marks may change places. Fails only when out of memory.
+/// Appends the elements of a decomposed list, whose marks may change places. Fails only if memory is refused.
 pub(crate) fn push_all(
     checked: &CheckedTables<'_>,
     numeric: Option<u8>,
@@ -74,15 +74,15 @@ pub(crate) fn push_all(
     requires empty { elements.old.items ≡ [] }
     ensures { OnOk result (unpacked elements.new.items ≡ elements_of_list (canonical_by checked.now) (weights_by numeric checked.now) (is_some numeric) list.old.items) }
 {
-    let mut place = 0;
-    'reading: while place < list.len() {
-        place = push_next(checked, numeric, list, place, elements)?;
+    let mut index = 0;
+    'reading: while index < list.len() {
+        index = push_next(checked, numeric, list, index, elements)?;
     }
     Ok(())
 }
 
 /// The elements of a decomposed list, by these tables. Where a lead byte is given, digits that stand together are read as
-/// a number, whose primaries have this lead byte. Fails only when out of memory.
+/// a number, whose primaries have this lead byte. Fails only if memory is refused.
 pub fn list_elements(
     alloc: Global,
     checked: &CheckedTables<'_>,

@@ -7,7 +7,7 @@ use crate::notes::flat_note::FlatNote;
 use crate::notes::pages::unpaged_note;
 
 impl CheckedTables<'_> {
-    /// By what a character behind the low ones is read flat: by its page, or else found by the tables.
+    /// By what a character after the low ones is read flat: by its page, or else found by the tables.
     #[inline]
     pub(super) fn find_note(&self, c: char) -> FlatNote
         ensures { IsFlatNote self.now c result }

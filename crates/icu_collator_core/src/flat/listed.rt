@@ -9,7 +9,7 @@ use crate::notes::flat_note::BEFORE_BOUNDARY;
 use crate::notes::flat_notes::note_of;
 
 impl CheckedTables<'_> {
-    /// Appends the elements of a character that stands behind one of this class, by its note or by the tables, if it has one,
+    /// Appends the elements of a character that stands after one of this class, by its note or by the tables, if it has one,
     /// its marks stand in order, and there is room; answers the class of the last character of its full list.
     fn push_part<const N: usize>(
         &self,
@@ -33,7 +33,7 @@ impl CheckedTables<'_> {
         Some(trail)
     }
 
-    /// Appends the elements of a character that stands behind one of this class, by its full list, if each character of that is
+    /// Appends the elements of a character that stands after one of this class, by its full list, if each character of that is
     /// read alone, its marks stand in order, and there is room; answers the class of the last.
     #[inline(never)]
     pub(super) fn push_listed<const N: usize>(

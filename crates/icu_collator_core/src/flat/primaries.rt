@@ -44,7 +44,7 @@ impl NextPrimaries {
 }
 
 impl FlatNote {
-    /// The primaries of a character that stands behind one of this class, if it is read flat there.
+    /// The primaries of a character that stands after one of this class, if it is read flat there.
     #[inline(always)]
     fn primaries(&self, numeric: Option<u8>, before: u32) -> Option<NextPrimaries>
         ensures { IfSome result (λ next. (source : CollationSource) (c : ℕ) → IsFlatNote source c self.now → HasPrimaries source numeric c before next) }
@@ -122,7 +122,7 @@ impl PairNote {
 }
 
 impl CheckedTables<'_> {
-    /// The primaries of a character that stands behind one of this class, each 0 for none, and the class of the last character of its
+    /// The primaries of a character that stands after one of this class, each 0 for none, and the class of the last character of its
     /// full list (UAX 15), 256 where a boundary has to follow, if it is read flat there: its marks stand in order. `None` for
     /// another, and for some that are so. Where a lead byte of numbers is given, no digit is read so. It takes few reads and no
     /// memory.
@@ -154,7 +154,7 @@ impl CheckedTables<'_> {
         Some(next)
     }
 
-    /// The primary of a letter that stands behind a character of this class, by its note, if it is read alone and has no other; and
+    /// The primary of a letter that stands after a character of this class, by its note, if it is read alone and has no other; and
     /// its class.
     #[inline(always)]
     fn letter_primary(&self, numeric: Option<u8>, c: char, before: u32) -> Option<NextPrimaries>
@@ -171,7 +171,7 @@ impl CheckedTables<'_> {
         Some(next)
     }
 
-    /// The primaries of a syllable that stands behind a character of this class, if each of its letters is read alone, and the class
+    /// The primaries of a syllable that stands after a character of this class, if each of its letters is read alone, and the class
     /// of the last letter.
     #[inline(never)]
     fn syllable_primaries(&self, numeric: Option<u8>, c: char, before: u32) -> Option<NextPrimaries>
@@ -179,12 +179,12 @@ impl CheckedTables<'_> {
         ensures { IfSome result (λ next. HasPrimaries self.now numeric c before next) }
     {
         self.canonical().keep_promise();
-        let place = c as u32 - 0xac00;
-        let leading = letter(0x1100 + place / 588);
+        let index = c as u32 - 0xac00;
+        let leading = letter(0x1100 + index / 588);
         let first = self.letter_primary(numeric, leading, before)?;
-        let vowel = letter(0x1161 + place % 588 / 28);
+        let vowel = letter(0x1161 + index % 588 / 28);
         let second = self.letter_primary(numeric, vowel, first.class)?;
-        if place % 28 == 0 {
+        if index % 28 == 0 {
             return Some(NextPrimaries {
                 first: first.first,
                 second: second.first,
@@ -192,7 +192,7 @@ impl CheckedTables<'_> {
                 class: second.class,
             });
         }
-        let trailing = letter(0x11a7 + place % 28);
+        let trailing = letter(0x11a7 + index % 28);
         let third = self.letter_primary(numeric, trailing, second.class)?;
         Some(NextPrimaries {
             first: first.first,
@@ -213,7 +213,7 @@ impl CheckedTables<'_> {
         Some(next)
     }
 
-    /// Whether a note tells that a character is read flat behind one of this class, and its full list (UAX 15) begins with a starter.
+    /// Whether a note tells that a character is read flat after one of this class, and its full list (UAX 15) begins with a starter.
     /// It takes few reads and no memory.
     #[inline(never)]
     pub fn starts_behind(&self, numeric: Option<u8>, c: char, class: u32) -> bool

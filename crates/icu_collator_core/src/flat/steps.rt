@@ -16,7 +16,7 @@ use crate::notes::pages::unpaged_note;
 use crate::sound::is_own_list;
 use icu_collator_types::elements::CollationElement;
 
-/// The note of a starter: it may stand behind any class, which is at most this.
+/// The note of a starter: it may stand after any class, which is at most this.
 const STARTER: u16 = 255;
 
 /// What comes next of a text that is read flat.
@@ -30,7 +30,7 @@ pub enum FlatStep {
     Other,
 }
 
-/// The primary of an element, the only one of a character, if it may stand behind one of a class; a primary only where it is a
+/// The primary of an element, the only one of a character, if it may stand after one of a class; a primary only where it is a
 /// starter's.
 #[inline(always)]
 fn primary_of_one(element: CollationElement, lead: u16, before: u32) -> Option<u32>
@@ -46,7 +46,7 @@ fn primary_of_one(element: CollationElement, lead: u16, before: u32) -> Option<u
     }
 }
 
-/// The primary of the first of two elements of a character, if it may stand behind one of a class; a primary only where the
+/// The primary of the first of two elements of a character, if it may stand after one of a class; a primary only where the
 /// first is that of a starter, and none of the second.
 #[inline(always)]
 fn primary_of_two(
@@ -80,7 +80,7 @@ impl FlatNote {
         0
     }
 
-    /// The primary of a character that stands behind one of this class, 0 for none, and the class of the last character of its
+    /// The primary of a character that stands after one of this class, 0 for none, and the class of the last character of its
     /// full list, if it is read flat, its marks stand in order, and none of its elements but the first, of a starter, has a
     /// primary.
     #[inline(always)]
@@ -148,7 +148,7 @@ impl FlatNote {
 }
 
 impl CheckedTables<'_> {
-    /// The element of a boundary of one element that is its own full list (UAX 15) and read flat behind any character, be numbers
+    /// The element of a boundary of one element that is its own full list (UAX 15) and read flat after any character, be numbers
     /// read or not; `None` for another, for some that are so, and for all below U+0800. It takes few reads and no memory.
     #[inline(always)]
     pub fn boundary_element(&self, c: char) -> Option<CollationElement>
@@ -173,7 +173,7 @@ impl CheckedTables<'_> {
         }
     }
 
-    /// The primary of a boundary of one element that is read flat behind any character, be numbers read or not; 0 for another,
+    /// The primary of a boundary of one element that is read flat after any character, be numbers read or not; 0 for another,
     /// for some that are so, and for all from U+0800 on. It takes one read and no memory.
     #[inline(always)]
     pub fn boundary_primary(&self, c: char) -> u32
@@ -185,7 +185,7 @@ impl CheckedTables<'_> {
         }
     }
 
-    /// The primary of a character that stands behind one of this class, 0 for none, and the class of the last character of its
+    /// The primary of a character that stands after one of this class, 0 for none, and the class of the last character of its
     /// full list (UAX 15), 256 where a boundary has to follow, if it is read flat there: its marks stand in order, and none of
     /// its elements but the first, a starter's, has a primary. `None` for another, and for some that are so. Where a lead byte of
     /// numbers is given, no digit is read so. A character below U+0800 takes one read; no memory is taken.
@@ -203,7 +203,7 @@ impl CheckedTables<'_> {
         }
     }
 
-    /// The same of a character behind the low ones.
+    /// The same of a character after the low ones.
     #[inline(never)]
     fn find_flat_primary(&self, numeric: Option<u8>, c: char, before: u32) -> Option<(u32, u32)>
         ensures { IfSome result (λ step. StepsTo self.now numeric c before step.0 step.1) }
@@ -228,7 +228,7 @@ impl CheckedTables<'_> {
     }
 
     /// Whether a primary to which a text was read so stands, whatever else the text holds: where what was read asks for a
-    /// boundary behind it, one stands there, or the text ends. Then the next character is taken from the text, and behind another
+    /// boundary after it, one stands there, or the text ends. Then the next character is taken from the text, and after another
     /// step the text isn't touched. No memory is taken.
     #[inline(always)]
     pub fn is_settled<I: Iterator<Item = char> + Drop>(
@@ -253,7 +253,7 @@ impl CheckedTables<'_> {
         }
     }
 
-    /// Whether what was read of a text, behind which a boundary has to follow, is followed by one, or by the end: this character
+    /// Whether what was read of a text, after which a boundary has to follow, is followed by one, or by the end: this character
     /// was taken next, `None` at the end.
     #[inline(never)]
     fn is_followed(&self, numeric: Option<u8>, next: Option<char>, class: u32) -> bool

@@ -95,7 +95,7 @@ impl CheckedTables<'_> {
 
     /// Reads on in a text that was read so far, until more of its elements stand, or to its end; answers whether it could be read
     /// so, and what is left. Where it couldn't, what is left isn't said. It can't be where it has more than 64 elements, and for
-    /// some other texts. Fails only when out of memory.
+    /// some other texts. Fails only if memory is refused.
     #[inline(never)]
     pub fn read_on<I: Iterator<Item = char> + Drop>(
         &self,

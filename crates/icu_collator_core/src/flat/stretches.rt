@@ -25,13 +25,13 @@ use icu_normalizer_core::built_in::is_syllable;
 use smallvec::SmallVec;
 use std::alloc::{AllocError, Global};
 
-/// What stands behind the last boundary of a text, with that; or all of the text, where none was met.
+/// What stands after the last boundary of a text, with that; or all of the text, where none was met.
 pub(super) struct Stretch {
     /// Its characters.
     chars: SmallVec<char, 64>,
     /// How many elements stand before it.
     count: usize,
-    /// Behind what class the next character stands, 256 where a boundary has to follow; if it is read flat.
+    /// After what class the next character stands, 256 where a boundary has to follow; if it is read flat.
     class: u16,
     /// Whether it isn't read flat.
     is_rough: bool,
@@ -95,7 +95,7 @@ impl Stretch {
 
 impl CheckedTables<'_> {
     /// Puts the elements of a stretch of these characters into an empty list, found by its decomposed list; `false` where what stands
-    /// before it may count. Fails only when out of memory.
+    /// before it may count. Fails only if memory is refused.
     fn find_elements(
         &self,
         numeric: Option<u8>,
@@ -116,9 +116,9 @@ impl CheckedTables<'_> {
         Ok(true)
     }
 
-    /// Puts the elements of a stretch that isn't flat in their place, behind which a boundary has to follow; `false` where what
+    /// Puts the elements of a stretch that isn't flat in their place, after which a boundary has to follow; `false` where what
     /// stands before it may count, it has more characters than the list has room for elements, or there is no room. Fails only
-    /// when out of memory.
+    /// if memory is refused.
     #[inline(never)]
     fn read_rough<const N: usize>(
         &self,
@@ -142,8 +142,8 @@ impl CheckedTables<'_> {
         Ok(elements.replace_from(stretch.count, found.as_slice()))
     }
 
-    /// Reads a stretch to its end, behind which a boundary stands, or nothing; `false` where that can't be. Fails only when out of
-    /// memory.
+    /// Reads a stretch to its end, after which a boundary stands, or nothing; `false` where that can't be. Fails only if memory is
+    /// refused.
     #[inline(always)]
     pub(super) fn close<const N: usize>(
         &self,
@@ -161,7 +161,7 @@ impl CheckedTables<'_> {
         Ok(is_read)
     }
 
-    /// Appends the elements of a boundary that stands behind one of this class: by its note, or a syllable's by its letters.
+    /// Appends the elements of a boundary that stands after one of this class: by its note, or a syllable's by its letters.
     #[inline(always)]
     fn push_boundary<const N: usize>(
         &self,
@@ -183,8 +183,8 @@ impl CheckedTables<'_> {
         Some(trail)
     }
 
-    /// Begins a stretch with a boundary; `false` where the one before can't be read, or there is no room. Fails only when out of
-    /// memory.
+    /// Begins a stretch with a boundary; `false` where the one before can't be read, or there is no room. Fails only if memory
+    /// is refused.
     #[inline(always)]
     fn begin<const N: usize>(
         &self,
@@ -216,8 +216,9 @@ impl CheckedTables<'_> {
         }
     }
 
-    /// Puts a character behind those of a stretch that isn't read flat there: it is read with the first, where both are noted as a
-    /// pair and no other stands between; else the stretch is rough. `false` where there is no room. Fails only when out of memory.
+    /// Puts a character after those of a stretch that isn't read flat there: it is read with the first, where both are noted as a
+    /// pair and no other stands between; else the stretch is rough. `false` where there is no room. Fails only if memory is
+    /// refused.
     #[inline(never)]
     fn pair_up<const N: usize>(
         &self,
@@ -240,7 +241,7 @@ impl CheckedTables<'_> {
         Ok(true)
     }
 
-    /// Puts a character behind those of a stretch; `false` where there is no room. Fails only when out of memory.
+    /// Puts a character after those of a stretch; `false` where there is no room. Fails only if memory is refused.
     #[inline(always)]
     fn go_on<const N: usize>(
         &self,
@@ -268,7 +269,7 @@ impl CheckedTables<'_> {
         }
     }
 
-    /// Reads the next character of a text; `false` where that can't be. Fails only when out of memory.
+    /// Reads the next character of a text; `false` where that can't be. Fails only if memory is refused.
     #[inline(always)]
     pub(super) fn read_next<const N: usize>(
         &self,
@@ -296,7 +297,7 @@ impl CheckedTables<'_> {
     /// Reads the text that an iterator gives, whatever the list held, if the list has room for its elements, and for one for each
     /// character of a part that isn't flat, from one boundary to the next, and such a part tells alone which recorded prefixes
     /// count. `false` for another text, and for some that are so; what the list has then is not said. Where a lead byte of numbers
-    /// is given, digits that stand together are read as a number. Fails only when out of memory.
+    /// is given, digits that stand together are read as a number. Fails only if memory is refused.
     #[inline(never)]
     pub fn read_stretches<I: Iterator<Item = char> + Drop, const N: usize>(
         &self,

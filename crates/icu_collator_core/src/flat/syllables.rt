@@ -32,7 +32,7 @@ impl CheckedTables<'_> {
         }
     }
 
-    /// Appends the elements of a letter that stands behind a character of this class, by its note, if it is read alone, and there
+    /// Appends the elements of a letter that stands after a character of this class, by its note, if it is read alone, and there
     /// is room; answers its class.
     #[inline(always)]
     fn push_letter<const N: usize>(
@@ -53,7 +53,7 @@ impl CheckedTables<'_> {
         Some(class)
     }
 
-    /// Appends the elements of a syllable that stands behind a character of this class, if each of its letters is read alone, and
+    /// Appends the elements of a syllable that stands after a character of this class, if each of its letters is read alone, and
     /// there is room; answers the class of the last letter.
     #[inline(never)]
     pub(super) fn push_syllable<const N: usize>(
@@ -67,15 +67,15 @@ impl CheckedTables<'_> {
         ensures { IfSome result (λ trail. IsPushed self.now numeric c before elements.old.items trail elements.new.items) }
     {
         self.canonical().keep_promise();
-        let place = c as u32 - 0xac00;
-        let leading = letter(0x1100 + place / 588);
+        let index = c as u32 - 0xac00;
+        let leading = letter(0x1100 + index / 588);
         let first = self.push_letter(numeric, leading, before, elements)?;
-        let vowel = letter(0x1161 + place % 588 / 28);
+        let vowel = letter(0x1161 + index % 588 / 28);
         let second = self.push_letter(numeric, vowel, first, elements)?;
-        if place % 28 == 0 {
+        if index % 28 == 0 {
             return Some(second);
         }
-        let trailing = letter(0x11a7 + place % 28);
+        let trailing = letter(0x11a7 + index % 28);
         let third = self.push_letter(numeric, trailing, second, elements)?;
         Some(third)
     }

@@ -55,7 +55,7 @@ fn note_of_elements(elements: &[CollationElement]) -> FlatNote
     FlatNote::Other
 }
 
-/// The note of a character whose full list is this, by the elements of the list. Fails only when out of memory.
+/// The note of a character whose full list is this, by the elements of the list. Fails only if memory is refused.
 fn note_of_list(
     alloc: Global,
     sound: &SoundTables<'_>,
@@ -68,7 +68,7 @@ fn note_of_list(
     Ok(note_of_elements(elements.as_slice()))
 }
 
-/// What is to be noted of a character whose full list is one. Fails only when out of memory.
+/// What is to be noted of a character whose full list is one. Fails only if memory is refused.
 fn note_of_first(
     alloc: Global,
     sound: &SoundTables<'_>,
@@ -85,7 +85,7 @@ fn note_of_first(
     Ok(note)
 }
 
-/// What is to be noted of a character whose full list is these two. Fails only when out of memory.
+/// What is to be noted of a character whose full list is these two. Fails only if memory is refused.
 fn note_of_both(
     alloc: Global,
     sound: &SoundTables<'_>,
@@ -104,8 +104,8 @@ fn note_of_both(
     Ok(note)
 }
 
-/// What is to be noted of a character that begins with a boundary, by what its full list is by itself. Fails only when out of
-/// memory.
+/// What is to be noted of a character that begins with a boundary, by what its full list is by itself. Fails only if memory
+/// is refused.
 pub(super) fn note_before_boundary(
     alloc: Global,
     sound: &SoundTables<'_>,

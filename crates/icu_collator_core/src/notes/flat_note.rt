@@ -7,12 +7,12 @@ ghost use Rattle.icu_collator_core.specs.FlatNotes.{BeginsApart, IsFlatNote, IsP
 use super::flat_elements::FlatElements;
 use icu_collator_types::elements::CollationElement;
 
-/// In place of a class: behind the character a boundary has to follow, or the end of the text.
+/// In place of a class: after the character a boundary has to follow, or the end of the text.
 pub(crate) const BEFORE_BOUNDARY: u16 = 256;
 
-/// What is noted of a character: the elements of its full list, whatever stands before it; behind them the highest canonical
-/// combining class behind which it may stand, 256 for a boundary, and the class of the last of the full list. Each character
-/// of that is read alone, whatever stands behind it, but where the last class is 256: there a boundary has to follow.
+/// What is noted of a character: the elements of its full list, whatever stands before it; after them the highest canonical
+/// combining class after which it may stand, 256 for a boundary, and the class of the last of the full list. Each character
+/// of that is read alone, whatever stands after it, but where the last class is 256: there a boundary has to follow.
 #[derive(Clone, Copy, Debug)]
 pub(crate) enum FlatNote {
     /// Nothing: it isn't read so.
@@ -28,7 +28,7 @@ pub(crate) enum FlatNote {
 }
 
 impl FlatNote {
-    /// Appends the elements of a character that stands behind one of this class, if it is read so, its marks stand in order, and
+    /// Appends the elements of a character that stands after one of this class, if it is read so, its marks stand in order, and
     /// there is room; answers the class of the last character of its full list. Where it isn't, the first may be appended.
     #[inline(always)]
     pub(crate) fn push<const N: usize>(
@@ -62,7 +62,7 @@ impl FlatNote {
         }
     }
 
-    /// Whether behind the character a boundary has to follow, as far as is noted.
+    /// Whether after the character a boundary has to follow, as far as is noted.
     pub(super) fn asks_boundary(&self) -> bool {
         match *self {
             FlatNote::One(_element, _lead, trail) => trail >= BEFORE_BOUNDARY,
@@ -71,7 +71,7 @@ impl FlatNote {
         }
     }
 
-    /// Whether the character is read flat behind one of this class.
+    /// Whether the character is read flat after one of this class.
     #[inline(always)]
     pub(crate) fn is_flat_behind(&self, numeric: Option<u8>, before: u16) -> bool {
         match *self {

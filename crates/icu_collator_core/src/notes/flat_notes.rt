@@ -25,7 +25,7 @@ pub(super) fn is_kept_apart(sound: &SoundTables<'_>, c: char) -> bool
         || sound.tables().metadata.lithuanian_dot_above() && c == '\u{307}'
 }
 
-/// The element of a character, if nothing that stands before or behind it changes it.
+/// The element of a character, if nothing that stands before or after it changes it.
 fn flat_element(sound: &SoundTables<'_>, c: char) -> Option<CollationElement>
     ensures { IfSome result (λ bits. (numeric : Option ℕ) → IsReadFlat sound.now numeric c bits) }
 {
@@ -36,7 +36,7 @@ fn flat_element(sound: &SoundTables<'_>, c: char) -> Option<CollationElement>
     Some(element)
 }
 
-/// The element of a digit, if nothing that stands before or behind it changes it where numbers aren't read.
+/// The element of a digit, if nothing that stands before or after it changes it where numbers aren't read.
 fn flat_digit(sound: &SoundTables<'_>, c: char) -> Option<CollationElement>
     ensures { IfSome result (λ bits. IsReadFlat sound.now None c bits) }
 {
@@ -47,14 +47,14 @@ fn flat_digit(sound: &SoundTables<'_>, c: char) -> Option<CollationElement>
     Some(element)
 }
 
-/// Whether a mark of a class may stand behind a character of another; a starter behind any.
+/// Whether a mark of a class may stand after a character of another; a starter after any.
 fn may_follow(before: u8, class: u8) -> bool
     ensures { result ≡ true → MayFollow before class }
 {
     class == 0 || before <= class
 }
 
-/// The highest class behind which a character of a decomposed list may stand: any behind which is a starter, 256 for a boundary,
+/// The highest class after which a character of a decomposed list may stand: any after which is a starter, 256 for a boundary,
 /// else its own.
 fn highest_before(sound: &SoundTables<'_>, c: char) -> u16
     ensures { (numeric : Option ℕ) (before : ℕ) → before ≤ result → IsUncounted sound.now numeric c → MayBegin sound.now numeric before c }
@@ -136,7 +136,8 @@ pub(crate) fn note_of(sound: &SoundTables<'_>, c: char) -> FlatNote
     note_of_two(sound, first, second)
 }
 
-/// What is to be noted of a character, also of one that is read so only where a boundary follows. Fails only when out of memory.
+/// What is to be noted of a character, also of one that is read so only where a boundary follows. Fails only if memory is
+/// refused.
 fn whole_note(alloc: Global, sound: &SoundTables<'_>, c: char) -> Result<FlatNote, AllocError>
     ensures { IfOk result (λ note. IsFlatNote sound.now c note) }
 {
@@ -147,7 +148,7 @@ fn whole_note(alloc: Global, sound: &SoundTables<'_>, c: char) -> Result<FlatNot
     }
 }
 
-/// What is to be noted of the character of a code, if it is one. Fails only when out of memory.
+/// What is to be noted of the character of a code, if it is one. Fails only if memory is refused.
 pub(super) fn note_at(
     alloc: Global,
     sound: &SoundTables<'_>,

@@ -55,7 +55,7 @@ impl CountingWord<'_> {
     }
 }
 
-/// Whether anything may stand behind two characters, of which the second is a starter: they are a recorded text, no text begins
+/// Whether anything may stand after two characters, of which the second is a starter: they are a recorded text, no text begins
 /// with them, and the first is read so wherever it stands.
 fn is_closed(sound: &SoundTables<'_>, first: char, second: char) -> bool
     ensures { result ≡ true → IsClosedPair sound.now first second }
@@ -136,7 +136,7 @@ fn is_composed_apart(sound: &SoundTables<'_>, first: char, mark: char, second: c
     is_told_alone(sound, &[first, mark, second])
 }
 
-/// What may stand behind two characters: 0 where anything may behind the second, a starter, else 256.
+/// What may stand after two characters: 0 where anything may after the second, a starter, else 256.
 fn trail_of(sound: &SoundTables<'_>, head: char, second: char) -> u16
     requires { IsPairApart sound.now head second }
     ensures { (items : List ℕ) → unpacked items ≡ elements_of_list (canonical_by sound.now) (weights_by None sound.now) false (head ∷ second ∷ [])
@@ -151,7 +151,8 @@ fn trail_of(sound: &SoundTables<'_>, head: char, second: char) -> u16
     BEFORE_BOUNDARY
 }
 
-/// Appends what is to be noted of a character whose full list is one, and another, if anything is. Fails only when out of memory.
+/// Appends what is to be noted of a character whose full list is one, and another, if anything is. Fails only if memory is
+/// refused.
 fn push_own(
     alloc: Global,
     sound: &SoundTables<'_>,
@@ -212,7 +213,7 @@ fn push_composed(
     }
 }
 
-/// Appends what is to be noted of two characters, if anything is. Fails only when out of memory.
+/// Appends what is to be noted of two characters, if anything is. Fails only if memory is refused.
 fn push_note(
     alloc: Global,
     sound: &SoundTables<'_>,
@@ -238,7 +239,7 @@ fn push_note(
     Ok(())
 }
 
-/// Appends what is to be noted of a character and that of a code, if it is one. Fails only when out of memory.
+/// Appends what is to be noted of a character and that of a code, if it is one. Fails only if memory is refused.
 fn push_pair(
     alloc: Global,
     sound: &SoundTables<'_>,
@@ -258,8 +259,8 @@ fn push_pair(
     }
 }
 
-/// Appends what is to be noted of a character with each of those with which texts that begin with it go on. Fails only when out of
-/// memory.
+/// Appends what is to be noted of a character with each of those with which texts that begin with it go on. Fails only if memory
+/// is refused.
 fn push_joined(
     alloc: Global,
     sound: &SoundTables<'_>,
@@ -280,7 +281,7 @@ fn push_joined(
 }
 
 /// Appends what is to be noted of a character with each that joins it or has prefixes, and answers how many were tried. Fails only
-/// when out of memory.
+/// if memory is refused.
 fn push_pairs(
     alloc: Global,
     sound: &SoundTables<'_>,
@@ -304,7 +305,7 @@ fn push_pairs(
     }
 }
 
-/// Those of some characters with which prefixes are recorded. Fails only when out of memory.
+/// Those of some characters with which prefixes are recorded. Fails only if memory is refused.
 fn prefixed_among(
     alloc: Global,
     sound: &SoundTables<'_>,
@@ -321,7 +322,7 @@ fn prefixed_among(
     Ok(prefixed)
 }
 
-/// Whether behind the character of a code a boundary has to follow, as far as these notes tell: of the low characters, and in pages.
+/// Whether after the character of a code a boundary has to follow, as far as these notes tell: of the low characters, and in pages.
 fn asks_boundary(flat: &[FlatNote], pages: &[NotePage], code: u32) -> bool {
     let code = code as usize;
     if let Some(note) = flat.get(code) {
@@ -336,8 +337,8 @@ fn asks_boundary(flat: &[FlatNote], pages: &[NotePage], code: u32) -> bool {
     }
 }
 
-/// Appends what is to be noted of the character of a code with others, if it is one behind which a boundary has to follow, and answers
-/// how many were tried. Fails only when out of memory.
+/// Appends what is to be noted of the character of a code with others, if it is one after which a boundary has to follow, and answers
+/// how many were tried. Fails only if memory is refused.
 fn push_of(
     alloc: Global,
     sound: &SoundTables<'_>,
@@ -362,8 +363,8 @@ fn push_of(
     }
 }
 
-/// The notes of pairs whose first characters have a note behind which a boundary has to follow, and whose second are unsafe by what is
-/// recorded, as far as not too many are tried. Fails only when out of memory.
+/// The notes of pairs whose first characters have a note after which a boundary has to follow, and whose second are unsafe by what is
+/// recorded, as far as not too many are tried. Fails only if memory is refused.
 pub(crate) fn pair_notes(
     alloc: Global,
     sound: &SoundTables<'_>,

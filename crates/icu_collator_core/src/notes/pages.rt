@@ -23,7 +23,7 @@ const PAGE_LENGTH: u32 = 64;
 /// The first page with notes: the characters before it have theirs in a list of their own.
 const FIRST_PAGE: u32 = 0x800 / PAGE_LENGTH;
 
-/// The pages end before this one, behind U+FFFF.
+/// The pages end before this one, after U+FFFF.
 const PAGE_END: u32 = 0x1_0000 / PAGE_LENGTH;
 
 /// The notes of a page's characters, in their order, seen as the list of them; none where the page has none.
@@ -42,12 +42,12 @@ impl Model for NotePage {
 }
 
 impl NotePage {
-    /// The note at a place, `None` behind the last.
+    /// The note at an index, `None` after the last.
     #[inline(always)]
-    pub(crate) fn get(&self, place: usize) -> Option<&FlatNote>
-        ensures { IfSome result (λ note. note.now ≡ get_or self.now place Other) }
+    pub(crate) fn get(&self, index: usize) -> Option<&FlatNote>
+        ensures { IfSome result (λ note. note.now ≡ get_or self.now index Other) }
     {
-        match self.notes.get(place) {
+        match self.notes.get(index) {
             Some(note) => Some(note),
             None => None,
         }
@@ -97,8 +97,8 @@ fn note_page(alloc: Global, sound: &SoundTables<'_>, page: u32) -> Result<NotePa
     ensures { IfOk result (λ notes. IsNotePage sound.now page notes) }
 {
     let mut notes = Vec::new(alloc);
-    for place in 0..PAGE_LENGTH {
-        let note = note_at(alloc, sound, page * PAGE_LENGTH + place)?;
+    for index in 0..PAGE_LENGTH {
+        let note = note_at(alloc, sound, page * PAGE_LENGTH + index)?;
         notes.push(note)?;
     }
     Ok(NotePage { notes })

@@ -7,7 +7,7 @@ ghost use Rattle.icu_collator_core.specs.Pairs.{ArePairNotes, IsPair, IsPairNote
 use icu_collator_types::elements::CollationElement;
 use std::alloc::{AllocError, Global};
 
-/// How many places are looked at for a pair.
+/// How many slots are looked at for a pair.
 const PROBES: usize = 8;
 
 /// Two characters, and what is noted of them where they stand together.
@@ -25,7 +25,7 @@ pub(crate) struct PairNote {
     trail: u16,
 }
 
-/// Notes of pairs, at places that their characters tell.
+/// Notes of pairs, at slots that their characters tell.
 #[derive(Debug)]
 pub(crate) struct PairNotes {
     /// The notes, and between them some of nothing.
@@ -119,9 +119,9 @@ impl PairNote {
     }
 }
 
-/// Where a pair is looked for first, of so many places.
+/// Where a pair is looked for first, of so many slots.
 #[inline(always)]
-fn place_of(first: char, second: char, size: u32) -> usize {
+fn slot_of(first: char, second: char, size: u32) -> usize {
     let mixed = (first as u32)
         .wrapping_mul(0x9E37_79B1)
         .wrapping_add((second as u32).wrapping_mul(0x85EB_CA6B));
@@ -145,9 +145,9 @@ impl PairNotes {
         ensures { IfSome result (λ pair. (source : CollationSource) → ArePairNotes source self.now
             → IsPair source first second (noted_elements pair.now) pair.now.trail) }
     {
-        let place = place_of(first, second, self.size);
+        let slot = slot_of(first, second, self.size);
         for probe in 0..PROBES {
-            let pair = self.slots.get(place.wrapping_add(probe))?;
+            let pair = self.slots.get(slot.wrapping_add(probe))?;
             if pair.count == 0 {
                 return None;
             }
@@ -158,25 +158,29 @@ impl PairNotes {
         None
     }
 
-    /// So many places, with a note of nothing in each.
-    fn places(alloc: Global, none: &PairNote, count: usize) -> Result<Vec<PairNote>, AllocError>
+    /// So many slots, with a note of nothing in each.
+    fn empty_slots(
+        alloc: Global,
+        none: &PairNote,
+        count: usize,
+    ) -> Result<Vec<PairNote>, AllocError>
         requires { none.now.count ≡ 0 }
         ensures { IfOk result (λ slots. (source : CollationSource) → All (IsPairNote source) slots.items) }
     {
         let mut slots = Vec::new(alloc);
-        for _place in 0..count {
+        for _slot in 0..count {
             slots.push(*none)?;
         }
         Ok(slots)
     }
 
-    /// Notes of pairs, each in a place of its own; where there is none near the first, the pair isn't noted.
+    /// Notes of pairs, each in a slot of its own; where there is none near the first, the pair isn't noted.
     pub(super) fn placed(alloc: Global, pairs: &[PairNote]) -> Result<Self, AllocError>
         ensures { IfOk result (λ notes. (source : CollationSource) → All (IsPairNote source) pairs.now → ArePairNotes source notes) }
     {
         let size = room_for(pairs.len());
         let count = (size as usize).saturating_add(PROBES);
-        let slots = PairNotes::places(alloc, &PairNote::none(), count)?;
+        let slots = PairNotes::empty_slots(alloc, &PairNote::none(), count)?;
         let mut notes = PairNotes { slots, size };
         for pair in pairs {
             notes.put(*pair);
@@ -184,13 +188,13 @@ impl PairNotes {
         Ok(notes)
     }
 
-    /// The first free of the places of a pair, if one is.
-    fn free_place(&self, first: char, second: char) -> Option<usize>
+    /// The first free of the slots of a pair, if one is.
+    fn free_slot(&self, first: char, second: char) -> Option<usize>
         ensures { IfSome result (λ at. at < length self.now.slots.items) }
     {
-        let place = place_of(first, second, self.size);
+        let slot = slot_of(first, second, self.size);
         for probe in 0..PROBES {
-            let at = place.wrapping_add(probe);
+            let at = slot.wrapping_add(probe);
             if at < self.slots.len() && self.slots[at].count == 0 {
                 return Some(at);
             }
@@ -198,17 +202,17 @@ impl PairNotes {
         None
     }
 
-    /// Puts the note of a pair in the first free of its places, if one is.
+    /// Puts the note of a pair in the first free of its slots, if one is.
     fn put(&mut self, pair: PairNote)
         ensures { (source : CollationSource) → IsPairNote source pair → ArePairNotes source self.old → ArePairNotes source self.new }
     {
-        if let Some(at) = self.free_place(pair.first, pair.second) {
+        if let Some(at) = self.free_slot(pair.first, pair.second) {
             self.slots[at] = pair;
         }
     }
 }
 
-/// In how many places so many pairs are looked for: four a pair or more, as far as a million go.
+/// In how many slots so many pairs are looked for: four a pair or more, as far as a million go.
 fn room_for(count: usize) -> u32 {
     let mut size = 16u32;
     for _doubling in 0..16 {

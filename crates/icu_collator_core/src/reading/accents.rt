@@ -10,13 +10,13 @@ pub(super) fn is_accent(c: char) -> bool
     c == '\u{300}' || c == '\u{301}' || c == '\u{303}'
 }
 
-/// Whether a grave, an acute or a tilde stands at a place of a list.
-pub(super) fn is_accent_at(list: &[char], place: usize) -> bool
-    requires { place ≤ length list.now }
-    ensures { result ≡ is_before_accent (drop place (placed list.now)) }
+/// Whether a grave, an acute or a tilde stands at an index of a list.
+pub(super) fn is_accent_at(list: &[char], index: usize) -> bool
+    requires { index ≤ length list.now }
+    ensures { result ≡ is_before_accent (drop index (placed list.now)) }
 {
-    if place < list.len() {
-        is_accent(list[place])
+    if index < list.len() {
+        is_accent(list[index])
     } else {
         false
     }

@@ -1,4 +1,4 @@
-//! What the word of a character says of it with nothing before or behind.
+//! What the word of a character says of it with nothing before or after.
 
 ghost use Rattle.std.specs.Prelude.{◌≡◌, ◌∷◌, [], OnOk};
 ghost use Rattle.std.specs.Option.{unwrap_or};
@@ -60,8 +60,8 @@ impl CountingWord<'_> {
         CollationElement::new_from_primary(primary)
     }
 
-    /// Appends the elements of a word, that of a text or of a character behind a prefix; where it has none, the element
-    /// of the character by itself. Fails only when out of memory.
+    /// Appends the elements of a word, that of a text or of a character after a prefix; where it has none, the element
+    /// of the character by itself. Fails only if memory is refused.
     pub(crate) fn push_spelled(
         self,
         c: char,
@@ -79,7 +79,7 @@ impl CountingWord<'_> {
         Ok(())
     }
 
-    /// Appends the elements of a character with nothing before or behind it. Fails only when out of memory.
+    /// Appends the elements of a character with nothing before or after it. Fails only if memory is refused.
     pub(crate) fn push_alone(
         self,
         c: char,

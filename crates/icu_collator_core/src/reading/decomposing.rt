@@ -13,7 +13,7 @@ use icu_normalizer_core::decomposition::{FormData, sort_marks};
 use smallvec::SmallVec;
 use std::alloc::{AllocError, Global};
 
-/// Appends a character. Fails only when out of memory.
+/// Appends a character. Fails only if memory is refused.
 #[inline(always)]
 fn push_character(list: &mut SmallVec<char, 64>, c: char) -> Result<(), AllocError>
     ensures items { OnOk result (list.new.items ≡ list.old.items ++ c ∷ []) }
@@ -23,7 +23,7 @@ fn push_character(list: &mut SmallVec<char, 64>, c: char) -> Result<(), AllocErr
     Ok(())
 }
 
-/// Puts the marks from a place on in their order. Fails only when out of memory.
+/// Puts the marks from an index on in their order. Fails only if memory is refused.
 #[inline(always)]
 fn close(
     canonical: CanonicalBorrowed<'_>,
@@ -36,7 +36,8 @@ fn close(
     sort_marks(FormData::Canonical(canonical), list, ready)
 }
 
-/// Appends a character of this class, and answers up to where the list is in order then. Fails only when out of memory.
+/// Appends a character of this class, and answers up to where the list is in order then. Fails only if memory is
+/// refused.
 #[inline(always)]
 fn push_classed(
     canonical: CanonicalBorrowed<'_>,
@@ -59,8 +60,8 @@ fn push_classed(
     }
 }
 
-/// Appends a character that is its own full list, and answers up to where the list is in order then. Fails only when out
-/// of memory.
+/// Appends a character that is its own full list, and answers up to where the list is in order then. Fails only if
+/// memory is refused.
 fn push_own(
     canonical: CanonicalBorrowed<'_>,
     list: &mut SmallVec<char, 64>,
@@ -74,8 +75,8 @@ fn push_own(
     push_classed(canonical, list, ready, c, class)
 }
 
-/// Appends two characters, each its own full list, and answers up to where the list is in order then. Fails only when out
-/// of memory.
+/// Appends two characters, each its own full list, and answers up to where the list is in order then. Fails only if
+/// memory is refused.
 #[inline(never)]
 fn push_two(
     canonical: CanonicalBorrowed<'_>,
@@ -92,7 +93,8 @@ fn push_two(
     Ok(next)
 }
 
-/// Appends the full list of a character, and answers up to where the list is in order then. Fails only when out of memory.
+/// Appends the full list of a character, and answers up to where the list is in order then. Fails only if memory is
+/// refused.
 #[inline(never)]
 fn push_full_list(
     canonical: CanonicalBorrowed<'_>,
@@ -134,8 +136,8 @@ fn push_decomposed(
     }
 }
 
-/// Appends the decomposed list of the characters that an iterator gives to a list that has none. Fails only when out of
-/// memory.
+/// Appends the decomposed list of the characters that an iterator gives to a list that has none. Fails only if memory
+/// is refused.
 fn fill<I: Iterator<Item = char> + Drop>(
     canonical: CanonicalBorrowed<'_>,
     chars: I,
@@ -155,8 +157,8 @@ fn fill<I: Iterator<Item = char> + Drop>(
     Ok(())
 }
 
-/// Makes a list the decomposed one of the characters that an iterator gives, whatever it held. Fails only when out of
-/// memory, and then the list has no character.
+/// Makes a list the decomposed one of the characters that an iterator gives, whatever it held. Fails only if memory is
+/// refused, and then the list has no character.
 pub(crate) fn decompose_into<I: Iterator<Item = char> + Drop>(
     canonical: CanonicalBorrowed<'_>,
     chars: I,

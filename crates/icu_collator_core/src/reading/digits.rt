@@ -21,17 +21,17 @@ fn digit_at(sound: &SoundTables<'_>, c: char) -> Option<u8>
     Some(digit as u8)
 }
 
-/// Appends the values of the digits that stand together at a place of a list. Fails only when out of memory.
+/// Appends the values of the digits that stand together at an index of a list. Fails only if memory is refused.
 fn push_digits(
     sound: &SoundTables<'_>,
     list: &[char],
-    place: usize,
+    index: usize,
     digits: &mut SmallVec<u8, 32>,
 ) -> Result<(), AllocError>
-    requires { place ≤ length list.now }
-    ensures { OnOk result (digits.new.items ≡ digits.old.items ++ leading_digits (weights_by None sound.now).digit (drop place list.now)) }
+    requires { index ≤ length list.now }
+    ensures { OnOk result (digits.new.items ≡ digits.old.items ++ leading_digits (weights_by None sound.now).digit (drop index list.now)) }
 {
-    for i in place..list.len() {
+    for i in index..list.len() {
         match digit_at(sound, list[i]) {
             Some(digit) => digits.push(digit)?,
             None => return Ok(()),
@@ -40,25 +40,25 @@ fn push_digits(
     Ok(())
 }
 
-/// Reads the number at a place of a list: appends the elements of the digits that stand there together, with this lead
-/// byte; answers where what is left begins. Fails only when out of memory.
+/// Reads the number at an index of a list: appends the elements of the digits that stand there together, with this lead
+/// byte; answers where what is left begins. Fails only if memory is refused.
 pub(crate) fn read_number(
     sound: &SoundTables<'_>,
     lead: u8,
     list: &[char],
-    place: usize,
+    index: usize,
     ready: &mut SmallVec<CollationElement, 32>,
 ) -> Result<usize, AllocError>
-    requires inside { place < length list.now }
-    requires digit { is_some ((weights_by (Some lead) sound.now).digit (slice_index list.now place)) ≡ true }
+    requires inside { index < length list.now }
+    requires digit { is_some ((weights_by (Some lead) sound.now).digit (slice_index list.now index)) ≡ true }
     ensures read { IfOk result (λ next. IsReadAs (canonical_by sound.now) (weights_by (Some lead) sound.now)
-        (number_reading (weights_by (Some lead) sound.now) (drop place (placed list.now))) ready.old.items list.now next ready.new.items) }
-    ensures onward { IfOk result (λ next. place < next) }
+        (number_reading (weights_by (Some lead) sound.now) (drop index (placed list.now))) ready.old.items list.now next ready.new.items) }
+    ensures onward { IfOk result (λ next. index < next) }
     ensures within { IfOk result (λ next. next ≤ length list.now) }
 {
     sound.keep_promise();
     let mut digits: SmallVec<u8, 32> = SmallVec::new(*ready.allocator());
-    push_digits(sound, list, place, &mut digits)?;
+    push_digits(sound, list, index, &mut digits)?;
     push_number(lead, &digits, ready)?;
-    Ok(place + digits.len())
+    Ok(index + digits.len())
 }

@@ -1,4 +1,4 @@
-//! The longest recorded text at a place of a list, with the marks that join it.
+//! The longest recorded text at an index of a list, with the marks that join it.
 
 ghost use Rattle.std.specs.Prelude.{◌≡◌, ℕ, ◌+◌, ◌-◌, ◌<◌, ◌≤◌, List, [], ◌∷◌, drop, length, slice_index, take, true};
 ghost use Rattle.std.specs.Bool.{OnFalse, OnTrue};
@@ -20,7 +20,7 @@ use icu_char16trie::{Char16Trie, Char16TrieIterator};
 use icu_normalizer_core::canonical::CanonicalBorrowed;
 use smallvec::SmallVec;
 
-/// The longest recorded text at a place of a list, with the marks that joined it.
+/// The longest recorded text at an index of a list, with the marks that joined it.
 #[derive(Clone, Copy, Debug)]
 pub(crate) struct TextMatch {
     /// Its word; `None` where it is a character alone.
@@ -32,7 +32,7 @@ pub(crate) struct TextMatch {
 /// A text that marks may join yet.
 #[derive(Clone, Copy, Debug)]
 struct OpenText<'t> {
-    /// Behind what the text has after its first character.
+    /// After what the text has after its first character.
     cursor: Char16TrieIterator<'t>,
     /// The text's word; `None` where it is a character alone.
     word: Option<u32>,
@@ -42,13 +42,13 @@ struct OpenText<'t> {
     highest: u8,
 }
 
-/// Moves the character at a place in front of those from another place on.
-fn bring_forward(list: &mut [char], from: usize, place: usize)
-    requires order { from ≤ place }
-    requires inside { place < length list.old }
-    ensures { list.new ≡ brought_forward list.old from place }
+/// Moves the character at an index in front of those from another index on.
+fn bring_forward(list: &mut [char], from: usize, index: usize)
+    requires order { from ≤ index }
+    requires inside { index < length list.old }
+    ensures { list.new ≡ brought_forward list.old from index }
 {
-    list[from..place + 1].rotate_right(1);
+    list[from..index + 1].rotate_right(1);
 }
 
 impl OpenText<'_> {
@@ -62,23 +62,23 @@ impl OpenText<'_> {
         }
     }
 
-    /// Reads the character at a place: a mark joins the text, where it moves in front of those left between, or is left
+    /// Reads the character at an index: a mark joins the text, where it moves in front of those left between, or is left
     /// between with them. Whether it is a mark; nothing changes where it is a starter.
     fn meets_mark(
         &mut self,
         canonical: CanonicalBorrowed<'_>,
         entry: CountingWord<'_>,
         list: &mut [char],
-        place: usize,
+        index: usize,
     ) -> bool
-        requires within { self.old.next ≤ place }
-        requires inside { place < length list.old }
-        ensures mark { OnTrue result (HasReadMark (borrowed_meaning canonical.entry) (table_word entry.entry) place list.old self.old list.new self.new) }
-        ensures starter { OnFalse result ((borrowed_meaning canonical.entry).class (slice_index list.old place) ≡ 0) }
+        requires within { self.old.next ≤ index }
+        requires inside { index < length list.old }
+        ensures mark { OnTrue result (HasReadMark (borrowed_meaning canonical.entry) (table_word entry.entry) index list.old self.old list.new self.new) }
+        ensures starter { OnFalse result ((borrowed_meaning canonical.entry).class (slice_index list.old index) ≡ 0) }
         ensures kept { OnFalse result ((self.new ≡ self.old) × (list.new ≡ list.old)) }
-        ensures next { self.new.next ≤ place + 1 }
+        ensures next { self.new.next ≤ index + 1 }
     {
-        let mark = list[place];
+        let mark = list[index];
         let class = canonical.class(mark);
         if class == 0 {
             return false;
@@ -90,15 +90,15 @@ impl OpenText<'_> {
             self.highest = class;
             return true;
         };
-        bring_forward(list, self.next, place);
+        bring_forward(list, self.next, index);
         self.word = Some(word);
         self.next += 1;
         true
     }
 }
 
-/// The longest recorded text that begins with the character of a word, by what stands behind it from a place of a list
-/// on, before any mark joined it. The trie has what may stand behind it.
+/// The longest recorded text that begins with the character of a word, by what stands after it from an index of a list
+/// on, before any mark joined it. The trie has what may stand after it.
 fn longest_open<'t>(
     entry: CountingWord<'_>,
     trie: &'t Char16Trie<'_>,
@@ -153,30 +153,30 @@ fn join_marks(
         (joining (borrowed_meaning canonical.entry) weights (c ∷ suffix) [] (drop first.entry.next (placed list.old))) result list.new }
 {
     let mut text = first;
-    for place in first.next..list.len() {
-        if !text.meets_mark(canonical, entry, list, place) {
+    for index in first.next..list.len() {
+        if !text.meets_mark(canonical, entry, list, index) {
             return text.found();
         }
     }
     text.found()
 }
 
-/// The longest recorded text at a place of a list, by the word that counts for the character there, with the marks that
+/// The longest recorded text at an index of a list, by the word that counts for the character there, with the marks that
 /// join it.
 fn found_match(
     canonical: CanonicalBorrowed<'_>,
     entry: CountingWord<'_>,
     list: &mut [char],
-    place: usize,
+    index: usize,
 ) -> TextMatch
-    requires { place < length list.old }
-    ensures found { IsTextMatch (borrowed_meaning canonical.entry) (table_word entry.entry) place list.old result list.new }
+    requires { index < length list.old }
+    ensures found { IsTextMatch (borrowed_meaning canonical.entry) (table_word entry.entry) index list.old result list.new }
     ensures moved { moves_marks (borrowed_meaning canonical.entry).class list.old list.new ≡ true }
     ensures kept { scalars list.old ≡ true → scalars list.new ≡ true }
-    ensures begins { place < result.next }
+    ensures begins { index < result.next }
     ensures within { result.next ≤ length list.old }
 {
-    let start = place + 1;
+    let start = index + 1;
     let Some(trie) = entry.suffixes() else {
         return TextMatch {
             word: None,
@@ -187,21 +187,21 @@ fn found_match(
     join_marks(canonical, entry, text, list)
 }
 
-/// The longest recorded text at a place of a list, by the word that counts for the character there, with the marks that
-/// join it. Those are moved in front of the marks left between: what is left to be read stands behind them.
+/// The longest recorded text at an index of a list, by the word that counts for the character there, with the marks that
+/// join it. Those are moved in front of the marks left between: what is left to be read stands after them.
 pub(crate) fn text_match(
     canonical: CanonicalBorrowed<'_>,
     entry: CountingWord<'_>,
     list: &mut SmallVec<char, 64>,
-    place: usize,
+    index: usize,
 ) -> TextMatch
-    requires { place < small_vec_len list.old }
-    ensures found { IsTextMatch (borrowed_meaning canonical.entry) (table_word entry.entry) place list.old.items result list.new.items }
+    requires { index < small_vec_len list.old }
+    ensures found { IsTextMatch (borrowed_meaning canonical.entry) (table_word entry.entry) index list.old.items result list.new.items }
     ensures moved { moves_marks (borrowed_meaning canonical.entry).class list.old.items list.new.items ≡ true }
     ensures kept { scalars list.old.items ≡ true → scalars list.new.items ≡ true }
     ensures same_length { small_vec_len list.new ≡ small_vec_len list.old }
-    ensures begins { place < result.next }
+    ensures begins { index < result.next }
     ensures within { result.next ≤ small_vec_len list.old }
 {
-    found_match(canonical, entry, list.as_mut_slice(), place)
+    found_match(canonical, entry, list.as_mut_slice(), index)
 }

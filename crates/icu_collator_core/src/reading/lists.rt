@@ -12,7 +12,7 @@ use icu_collator_types::elements::CollationElement;
 use smallvec::SmallVec;
 use std::alloc::{AllocError, Global};
 
-/// Appends the elements of a decomposed list, whose marks may change places. Fails only when out of memory.
+/// Appends the elements of a decomposed list, whose marks may change places. Fails only if memory is refused.
 fn push_all(
     sound: &SoundTables<'_>,
     numeric: Option<u8>,
@@ -23,15 +23,15 @@ fn push_all(
     requires empty { elements.old.items ≡ [] }
     ensures { OnOk result (unpacked elements.new.items ≡ elements_of_list (canonical_by sound.now) (weights_by numeric sound.now) (is_some numeric) list.old.items) }
 {
-    let mut place = 0;
-    'reading: while place < list.len() {
-        place = read_next(sound, numeric, list, place, elements)?;
+    let mut index = 0;
+    'reading: while index < list.len() {
+        index = read_next(sound, numeric, list, index, elements)?;
     }
     Ok(())
 }
 
 /// The elements of a decomposed list, by these tables. Where a lead byte is given, digits that stand together are read as
-/// a number, whose primaries have this lead byte. Fails only when out of memory.
+/// a number, whose primaries have this lead byte. Fails only if memory is refused.
 pub(crate) fn list_elements(
     alloc: Global,
     sound: &SoundTables<'_>,

@@ -29,7 +29,7 @@ use icu_normalizer_core::canonical::CanonicalBorrowed;
 use smallvec::SmallVec;
 use std::alloc::AllocError;
 
-/// How many marks behind another make a run long.
+/// How many marks after another make a run long.
 const MANY: usize = 32;
 
 /// What is left of marks of one class that follow one another.
@@ -44,7 +44,7 @@ pub(crate) struct ClassMarks<'l> {
 /// A text that marks of a run may join yet.
 #[derive(Clone, Copy, Debug)]
 struct MarkedText<'t> {
-    /// Behind what the text has after its first character.
+    /// After what the text has after its first character.
     cursor: Char16TrieIterator<'t>,
     /// The text's word; `None` where it is a character alone.
     word: Option<u32>,
@@ -52,32 +52,32 @@ struct MarkedText<'t> {
     highest: u8,
 }
 
-/// Whether a long run of marks begins at a place of a list.
-pub(crate) fn begins_long_run(canonical: CanonicalBorrowed<'_>, list: &[char], place: usize) -> bool
-    requires inside { place < length list.now }
-    ensures { IsTrue result → not ((borrowed_meaning canonical.entry).class (slice_index list.now place) == 0) ≡ true }
+/// Whether a long run of marks begins at an index of a list.
+pub(crate) fn begins_long_run(canonical: CanonicalBorrowed<'_>, list: &[char], index: usize) -> bool
+    requires inside { index < length list.now }
+    ensures { IsTrue result → not ((borrowed_meaning canonical.entry).class (slice_index list.now index) == 0) ≡ true }
 {
-    if list.len() - place <= MANY {
+    if list.len() - index <= MANY {
         return false;
     }
     for i in 0..MANY {
-        if canonical.class(list[place + MANY - i]) == 0 {
+        if canonical.class(list[index + MANY - i]) == 0 {
             return false;
         }
     }
-    canonical.class(list[place]) != 0
+    canonical.class(list[index]) != 0
 }
 
-/// Where the marks of a class end that stand in a list from a place on.
-fn class_end(canonical: CanonicalBorrowed<'_>, list: &[char], place: usize, class: u8) -> usize
-    requires inside { place ≤ length list.now }
+/// Where the marks of a class end that stand in a list from an index on.
+fn class_end(canonical: CanonicalBorrowed<'_>, list: &[char], index: usize, class: u8) -> usize
+    requires inside { index ≤ length list.now }
     requires characters { scalars list.now ≡ true }
-    ensures begins { place ≤ result }
+    ensures begins { index ≤ result }
     ensures within { result ≤ length list.now }
-    ensures onward { place < length list.now → (borrowed_meaning canonical.entry).class (slice_index list.now place) ≡ class → place < result }
-    ensures marks { are_of_class (borrowed_meaning canonical.entry).class class (drop place (take result list.now)) ≡ true }
+    ensures onward { index < length list.now → (borrowed_meaning canonical.entry).class (slice_index list.now index) ≡ class → index < result }
+    ensures marks { are_of_class (borrowed_meaning canonical.entry).class class (drop index (take result list.now)) ≡ true }
 {
-    for i in place..list.len() {
+    for i in index..list.len() {
         if canonical.class(list[i]) != class {
             return i;
         }
@@ -85,7 +85,7 @@ fn class_end(canonical: CanonicalBorrowed<'_>, list: &[char], place: usize, clas
     list.len()
 }
 
-/// The marks of a class that stand in a list from a place on, up to another place.
+/// The marks of a class that stand in a list from an index on, up to another index.
 fn class_marks(list: &[char], start: usize, end: usize, class: u8) -> ClassMarks<'_>
     requires order { start ≤ end }
     requires inside { end ≤ length list.now }
@@ -98,24 +98,24 @@ fn class_marks(list: &[char], start: usize, end: usize, class: u8) -> ClassMarks
     }
 }
 
-/// Appends the marks that stand in a list from a place on, up to the next starter, class by class; answers where that
-/// starter stands. Fails only when out of memory.
+/// Appends the marks that stand in a list from an index on, up to the next starter, class by class; answers where that
+/// starter stands. Fails only if memory is refused.
 fn gather<'l>(
     canonical: CanonicalBorrowed<'_>,
     list: &'l [char],
-    place: usize,
+    index: usize,
     classes: &mut Vec<ClassMarks<'l>>,
 ) -> Result<usize, AllocError>
-    requires inside { place ≤ length list.now }
+    requires inside { index ≤ length list.now }
     requires characters { scalars list.now ≡ true }
     requires none { classes.old.items ≡ [] }
-    ensures begins { IfOk result (λ end. place ≤ end) }
+    ensures begins { IfOk result (λ end. index ≤ end) }
     ensures within { IfOk result (λ end. end ≤ length list.now) }
-    ensures left { IfOk result (λ end. marks_left classes.new.items ≡ drop place (take end list.now)) }
+    ensures left { IfOk result (λ end. marks_left classes.new.items ≡ drop index (take end list.now)) }
     ensures marks { OnOk result (are_of_classes (borrowed_meaning canonical.entry).class classes.new.items ≡ true) }
     ensures ended { IfOk result (λ end. ends_run (borrowed_meaning canonical.entry).class (drop end (placed list.now)) ≡ true) }
 {
-    let mut end = place;
+    let mut end = index;
     'gathering: while end < list.len() {
         let class = canonical.class(list[end]);
         if class == 0 {
@@ -128,7 +128,7 @@ fn gather<'l>(
     Ok(end)
 }
 
-/// What is left of the class at a place.
+/// What is left of the class at an index.
 fn class_at<'l>(classes: &[ClassMarks<'l>], i: usize) -> ClassMarks<'l>
     requires { i < length classes.now }
     ensures { result ≡ slice_index_or classes.now i result }
@@ -136,7 +136,7 @@ fn class_at<'l>(classes: &[ClassMarks<'l>], i: usize) -> ClassMarks<'l>
     classes[i]
 }
 
-/// Leaves other marks of the class at a place.
+/// Leaves other marks of the class at an index.
 fn put_class<'l>(classes: &mut [ClassMarks<'l>], i: usize, left: ClassMarks<'l>)
     requires { i < length classes.old }
     ensures { classes.new ≡ slice_set classes.old i left.entry }
@@ -232,7 +232,7 @@ impl MarkedText<'_> {
 }
 
 /// The word of the text that begins with the character of a word and that marks of a run join, which are taken out of
-/// it; `None` where none does. The trie has what may stand behind the character.
+/// it; `None` where none does. The trie has what may stand after the character.
 fn join_classes(
     entry: CountingWord<'_>,
     trie: &Char16Trie<'_>,
@@ -269,7 +269,7 @@ fn joined_word(entry: CountingWord<'_>, classes: &mut [ClassMarks<'_>]) -> Optio
     }
 }
 
-/// Whether an accent stands before what is left of a run, and of a list behind it.
+/// Whether an accent stands before what is left of a run, and of a list after it.
 fn is_before_accent(classes: &[ClassMarks<'_>], list: &[char], end: usize) -> bool
     requires { end ≤ length list.now }
     ensures { (here : List Placed) → characters_of here ≡ marks_left classes.now → result ≡ is_before_accent (here ++ drop end (placed list.now)) }
@@ -280,7 +280,7 @@ fn is_before_accent(classes: &[ClassMarks<'_>], list: &[char], end: usize) -> bo
     }
 }
 
-/// Whether a character is a dot above that is dropped, by what is left of a run, and of a list behind it.
+/// Whether a character is a dot above that is dropped, by what is left of a run, and of a list after it.
 fn is_dropped(
     tables: &CollationTables<'_>,
     c: char,
@@ -296,7 +296,7 @@ fn is_dropped(
 }
 
 /// Appends the elements of the text that begins with the character of a word and that marks of a run join, which are
-/// taken out of it. Fails only when out of memory.
+/// taken out of it. Fails only if memory is refused.
 fn push_joined(
     entry: CountingWord<'_>,
     c: char,
@@ -315,7 +315,7 @@ fn push_joined(
 }
 
 /// Reads a mark that stands before what is left of a run, and takes the marks that join it out of that: appends its
-/// elements. Fails only when out of memory.
+/// elements. Fails only if memory is refused.
 fn read_mark(
     sound: &SoundTables<'_>,
     c: char,
@@ -351,26 +351,26 @@ fn read_mark(
     }
 }
 
-/// Reads what is left of a run, which stands in a list between two places: appends the elements. Fails only when out of
-/// memory.
+/// Reads what is left of a run, which stands in a list between two indices: appends the elements. Fails only if memory
+/// is refused.
 fn read_gathered(
     sound: &SoundTables<'_>,
     list: &[char],
-    place: usize,
+    index: usize,
     end: usize,
     classes: &mut [ClassMarks<'_>],
     ready: &mut SmallVec<CollationElement, 32>,
 ) -> Result<(), AllocError>
-    requires order { place ≤ end }
+    requires order { index ≤ end }
     requires inside { end ≤ length list.now }
     requires characters { scalars list.now ≡ true }
-    requires left { marks_left classes.old ≡ drop place (take end list.now) }
+    requires left { marks_left classes.old ≡ drop index (take end list.now) }
     requires marks { are_of_classes (canonical_by sound.now).class classes.old ≡ true }
     requires ended { ends_run (canonical_by sound.now).class (drop end (placed list.now)) ≡ true }
     ensures { OnOk result ((numeric : Option ℕ)
-        → IsRead (canonical_by sound.now) (weights_by numeric sound.now) (is_some numeric) list.now place (unpacked ready.old.items) list.now end (unpacked ready.new.items)) }
+        → IsRead (canonical_by sound.now) (weights_by numeric sound.now) (is_some numeric) list.now index (unpacked ready.old.items) list.now end (unpacked ready.new.items)) }
 {
-    for _mark in place..end {
+    for _mark in index..end {
         let Some(c) = take_first(classes) else {
             return Ok(());
         };
@@ -379,24 +379,25 @@ fn read_gathered(
     Ok(())
 }
 
-/// Reads the marks that stand in a list from a place on, up to the next starter: appends their elements, and answers where
-/// that starter stands. Takes time in proportion to the run, with as many classes as it has. Fails only when out of memory.
+/// Reads the marks that stand in a list from an index on, up to the next starter: appends their elements, and answers where
+/// that starter stands. Takes time in proportion to the run, with as many classes as it has. Fails only if memory is
+/// refused.
 pub(crate) fn read_marks(
     sound: &SoundTables<'_>,
     list: &[char],
-    place: usize,
+    index: usize,
     ready: &mut SmallVec<CollationElement, 32>,
 ) -> Result<usize, AllocError>
-    requires inside { place < length list.now }
+    requires inside { index < length list.now }
     requires characters { scalars list.now ≡ true }
-    requires mark { not ((canonical_by sound.now).class (slice_index list.now place) == 0) ≡ true }
+    requires mark { not ((canonical_by sound.now).class (slice_index list.now index) == 0) ≡ true }
     ensures read { IfOk result (λ next. (numeric : Option ℕ)
-        → IsRead (canonical_by sound.now) (weights_by numeric sound.now) (is_some numeric) list.now place (unpacked ready.old.items) list.now next (unpacked ready.new.items)) }
-    ensures onward { IfOk result (λ next. place < next) }
+        → IsRead (canonical_by sound.now) (weights_by numeric sound.now) (is_some numeric) list.now index (unpacked ready.old.items) list.now next (unpacked ready.new.items)) }
+    ensures onward { IfOk result (λ next. index < next) }
     ensures within { IfOk result (λ next. next ≤ length list.now) }
 {
     let mut classes = Vec::new(*ready.allocator());
-    let end = gather(sound.canonical(), list, place, &mut classes)?;
-    read_gathered(sound, list, place, end, &mut classes, ready)?;
+    let end = gather(sound.canonical(), list, index, &mut classes)?;
+    read_gathered(sound, list, index, end, &mut classes, ready)?;
     Ok(end)
 }

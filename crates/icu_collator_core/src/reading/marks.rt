@@ -36,7 +36,7 @@ fn if_recorded(source: &CollationData<'_>, word: Option<u32>) -> Option<u32>
     }
 }
 
-/// A cursor behind so many characters of a list from a place on.
+/// A cursor after so many characters of a list from an index on.
 pub(crate) fn cursor_behind<'t>(
     trie: &'t Char16Trie<'_>,
     list: &[char],
@@ -54,7 +54,7 @@ pub(crate) fn cursor_behind<'t>(
 }
 
 impl<'t> CountingWord<'t> {
-    /// The texts that stand behind the character of the word in recorded texts, `None` where there are none.
+    /// The texts that stand after the character of the word in recorded texts, `None` where there are none.
     pub(crate) fn suffixes(self) -> Option<Char16Trie<'t>>
         ensures { MatchOption result
             (has_tag Contraction (unprefixed_word (pools_of self.entry.source.now) self.entry.word) ≡ false)
@@ -68,8 +68,8 @@ impl<'t> CountingWord<'t> {
         Some(context_of(self.source, word))
     }
 
-    /// The word of a text with one character more, if that text is recorded. The cursor stands behind what the text has
-    /// after its first character; then behind the character too, unless the longer text isn't recorded.
+    /// The word of a text with one character more, if that text is recorded. The cursor stands after what the text has
+    /// after its first character; then after the character too, unless the longer text isn't recorded.
     pub(crate) fn join(self, cursor: &mut Char16TrieIterator<'_>, c: char) -> Option<u32>
         ensures word { (suffix : List ℕ) → IsAtText (suffix_units (table_word self.entry)) suffix cursor.old
             → result ≡ if_recorded (pools_of self.entry.source.now) (word_by (suffix_units (table_word self.entry)) (suffix ++ c ∷ [])) }

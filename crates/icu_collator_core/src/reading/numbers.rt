@@ -14,7 +14,7 @@ use std::alloc::AllocError;
 /// How many digits have elements together; a number of more is read in parts.
 const MOST_DIGITS: usize = 254;
 
-/// Appends the element of the primary of four bytes. Fails only when out of memory.
+/// Appends the element of the primary of four bytes. Fails only if memory is refused.
 fn push_bytes(
     lead: u8,
     second: u8,
@@ -74,29 +74,29 @@ fn kept_pairs(digits: &[u8]) -> usize
     kept
 }
 
-/// The byte at a place behind the lead byte of a number of many digits, of which so many pairs stay; 0 behind the last.
-fn byte_at(digits: &[u8], kept: usize, place: usize) -> u8
+/// The byte at an index after the lead byte of a number of many digits, of which so many pairs stay; 0 after the last.
+fn byte_at(digits: &[u8], kept: usize, index: usize) -> u8
     requires digits { AreDigitValues digits.now }
     requires short { length digits.now ≤ 254 }
     requires kept { take kept (pairs_of (evened digits.now)) ≡ without_last_zeros (pairs_of (evened digits.now)) }
     requires within { kept ≤ (length digits.now + 1) / 2 }
-    ensures { result ≡ slice_index (long_bytes digits.now) place }
+    ensures { result ≡ slice_index (long_bytes digits.now) index }
 {
-    if place == 0 {
+    if index == 0 {
         return 128 + pair_count(digits) as u8;
     }
-    if place > kept {
+    if index > kept {
         return 0;
     }
-    let pair = pair_at(digits, place - 1);
-    if place == kept {
+    let pair = pair_at(digits, index - 1);
+    if index == kept {
         10 + 2 * pair
     } else {
         11 + 2 * pair
     }
 }
 
-/// Appends the elements of a number of many digits. Fails only when out of memory.
+/// Appends the elements of a number of many digits. Fails only if memory is refused.
 fn push_long(
     lead: u8,
     digits: &[u8],
@@ -116,7 +116,7 @@ fn push_long(
     Ok(())
 }
 
-/// Appends the elements of a number of at most 254 digits. Fails only when out of memory.
+/// Appends the elements of a number of at most 254 digits. Fails only if memory is refused.
 #[tactic(auto, unfolding(crate::specs::Numbers::number_part))]
 fn push_part(
     lead: u8,
@@ -170,8 +170,8 @@ fn significant(digits: &[u8]) -> &[u8]
     rest
 }
 
-/// Appends the elements of a number: of its digits, the highest first, with this lead byte. Fails only when out of
-/// memory.
+/// Appends the elements of a number: of its digits, the highest first, with this lead byte. Fails only if memory is
+/// refused.
 pub(crate) fn push_number(
     lead: u8,
     digits: &[u8],

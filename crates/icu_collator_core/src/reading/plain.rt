@@ -1,4 +1,4 @@
-//! Characters that are read alone, whatever stands before or behind them.
+//! Characters that are read alone, whatever stands before or after them.
 
 ghost use Rattle.std.specs.Prelude.{◌≡◌, ◌||◌, ℕ, IfSome, true};
 ghost use Rattle.icu_collator_types.specs.ElementWords.{has_tag};
@@ -29,7 +29,7 @@ impl CountingWord<'_> {
     }
 
     /// The element of a character that its word leaves to a range or to its code point: nothing that stands before or
-    /// behind it changes it. `None` of another word.
+    /// after it changes it. `None` of another word.
     fn own_element(self, c: char) -> Option<CollationElement>
         ensures { IfSome result (λ bits. (weights : Weights) → AreSaidBy weights (table_word self.entry) c → IsReadAlone weights c bits) }
     {
@@ -41,7 +41,7 @@ impl CountingWord<'_> {
     }
 
     /// The element of a character whose word states one, or leaves it to a range or to its code point: nothing that stands
-    /// before or behind it changes it. `None` of another word.
+    /// before or after it changes it. `None` of another word.
     #[inline]
     pub(crate) fn alone_element(self, c: char) -> Option<CollationElement>
         ensures { IfSome result (λ bits. (weights : Weights) → AreSaidBy weights (table_word self.entry) c → IsReadAlone weights c bits) }
@@ -52,7 +52,7 @@ impl CountingWord<'_> {
         }
     }
 
-    /// The element of a digit whose word states one for it where digits don't count: nothing that stands before or behind it
+    /// The element of a digit whose word states one for it where digits don't count: nothing that stands before or after it
     /// changes it then. `None` of another word.
     pub(crate) fn digit_element(self) -> Option<CollationElement>
         ensures { IfSome result (λ bits. (weights : Weights) (c : ℕ) → AreSaidBy weights (table_word self.entry) c → IsReadUncounted weights c bits) }

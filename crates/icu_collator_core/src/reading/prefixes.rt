@@ -25,20 +25,20 @@ use icu_collator_types::elements::Tag;
 /// How many characters a prefix may have.
 const LONGEST_PREFIX: usize = 3;
 
-/// The longest text that a trie has before a place of a list, the nearest character first.
+/// The longest text that a trie has before an index of a list, the nearest character first.
 fn nearest_text(
     source: &CollationData<'_>,
     trie: &Char16Trie<'_>,
     list: &[char],
-    place: usize,
+    index: usize,
 ) -> Option<LongerText>
-    requires { place ≤ length list.now }
-    ensures { result ≡ longest_text (pools_of source.now) (trie_units trie.now) (characters_before list.now place) }
+    requires { index ≤ length list.now }
+    ensures { result ≡ longest_text (pools_of source.now) (trie_units trie.now) (characters_before list.now index) }
 {
     let mut cursor = trie.iter();
     let mut longest = None;
-    for n in 0..place.min(LONGEST_PREFIX) {
-        let answer = cursor.next(list[place - 1 - n]);
+    for n in 0..index.min(LONGEST_PREFIX) {
+        let answer = cursor.next(list[index - 1 - n]);
         longest = longer_of(source, n + 1, answer, longest);
         if is_last(answer) {
             return longest;
@@ -47,18 +47,18 @@ fn nearest_text(
     longest
 }
 
-/// Whether the longest text that a trie has before a place of a list is the same whatever else stands before the list.
-fn is_nearest_told(trie: &Char16Trie<'_>, list: &[char], place: usize) -> bool
-    requires { place ≤ length list.now }
-    ensures { result ≡ true → (pools : Pools) (further : List ℕ) → longest_text pools (trie_units trie.now) (characters_behind further list.now place)
-        ≡ longest_text pools (trie_units trie.now) (characters_before list.now place) }
+/// Whether the longest text that a trie has before an index of a list is the same whatever else stands before the list.
+fn is_nearest_told(trie: &Char16Trie<'_>, list: &[char], index: usize) -> bool
+    requires { index ≤ length list.now }
+    ensures { result ≡ true → (pools : Pools) (further : List ℕ) → longest_text pools (trie_units trie.now) (characters_behind further list.now index)
+        ≡ longest_text pools (trie_units trie.now) (characters_before list.now index) }
 {
-    if place >= LONGEST_PREFIX {
+    if index >= LONGEST_PREFIX {
         return true;
     }
     let mut cursor = trie.iter();
-    for n in 0..place {
-        let answer = cursor.next(list[place - 1 - n]);
+    for n in 0..index {
+        let answer = cursor.next(list[index - 1 - n]);
         if is_last(answer) {
             return true;
         }
@@ -67,53 +67,53 @@ fn is_nearest_told(trie: &Char16Trie<'_>, list: &[char], place: usize) -> bool
 }
 
 impl CountingWord<'_> {
-    /// The longest recorded prefix that stands before the character of the word, by what stands before its place in a
+    /// The longest recorded prefix that stands before the character of the word, by what stands before its index in a
     /// list.
     #[tactic(auto, unfolding(crate::specs::ReadTexts::prefixed_by))]
-    fn found_prefix(self, list: &[char], place: usize) -> Option<LongerText>
-        requires { place ≤ length list.now }
-        ensures { result ≡ prefixed_by (table_word self.entry) (characters_before list.now place) }
+    fn found_prefix(self, list: &[char], index: usize) -> Option<LongerText>
+        requires { index ≤ length list.now }
+        ensures { result ≡ prefixed_by (table_word self.entry) (characters_before list.now index) }
     {
         if !has_tag(self.word, Tag::Prefix) {
             return None;
         }
         let trie = context_of(self.source, self.word);
-        nearest_text(self.source, &trie, list, place)
+        nearest_text(self.source, &trie, list, index)
     }
 
     /// The same: it is the match of all weights that the word says.
-    pub(crate) fn prefixed_text(self, list: &[char], place: usize) -> Option<LongerText>
-        requires { place ≤ length list.now }
-        ensures text { result ≡ prefixed_by (table_word self.entry) (characters_before list.now place) }
-        ensures record { (weights : Weights) (c : ℕ) → AreSaidBy weights (table_word self.entry) c → scalars (take place list.now) ≡ true
-            → prefix_match weights (record { character = c; before = characters_before list.now place })
+    pub(crate) fn prefixed_text(self, list: &[char], index: usize) -> Option<LongerText>
+        requires { index ≤ length list.now }
+        ensures text { result ≡ prefixed_by (table_word self.entry) (characters_before list.now index) }
+        ensures record { (weights : Weights) (c : ℕ) → AreSaidBy weights (table_word self.entry) c → scalars (take index list.now) ≡ true
+            → prefix_match weights (record { character = c; before = characters_before list.now index })
             ≡ option_and_then (λ text. elements_of_word (pools_of self.entry.source.now) text.word) result }
     {
-        self.found_prefix(list, place)
+        self.found_prefix(list, index)
     }
 
-    /// Whether the longest recorded prefix that stands before the character of the word at a place of a list is the same whatever
+    /// Whether the longest recorded prefix that stands before the character of the word at an index of a list is the same whatever
     /// else stands before the list.
     #[tactic(auto, unfolding(crate::specs::ReadTexts::prefixed_by))]
-    fn is_prefix_told(self, list: &[char], place: usize) -> bool
-        requires { place ≤ length list.now }
-        ensures { result ≡ true → (further : List ℕ) → prefixed_by (table_word self.entry) (characters_behind further list.now place)
-            ≡ prefixed_by (table_word self.entry) (characters_before list.now place) }
+    fn is_prefix_told(self, list: &[char], index: usize) -> bool
+        requires { index ≤ length list.now }
+        ensures { result ≡ true → (further : List ℕ) → prefixed_by (table_word self.entry) (characters_behind further list.now index)
+            ≡ prefixed_by (table_word self.entry) (characters_before list.now index) }
     {
         if !has_tag(self.word, Tag::Prefix) {
             return true;
         }
         let trie = context_of(self.source, self.word);
-        is_nearest_told(&trie, list, place)
+        is_nearest_told(&trie, list, index)
     }
 
     /// The same: it is so by all weights that the word says.
-    pub(crate) fn is_told(self, list: &[char], place: usize) -> bool
-        requires { place ≤ length list.now }
-        ensures { result ≡ true → (weights : Weights) (c : ℕ) → AreSaidBy weights (table_word self.entry) c → scalars (take place list.now) ≡ true
-            → IsToldAt weights list.now place c }
+    pub(crate) fn is_told(self, list: &[char], index: usize) -> bool
+        requires { index ≤ length list.now }
+        ensures { result ≡ true → (weights : Weights) (c : ℕ) → AreSaidBy weights (table_word self.entry) c → scalars (take index list.now) ≡ true
+            → IsToldAt weights list.now index c }
     {
-        self.is_prefix_told(list, place)
+        self.is_prefix_told(list, index)
     }
 }
 
@@ -122,8 +122,8 @@ pub(crate) fn is_told_alone(sound: &SoundTables<'_>, list: &[char]) -> bool
     requires { scalars list.now ≡ true }
     ensures { result ≡ true → (numeric : Option ℕ) → IsToldAlone (weights_by numeric sound.now) list.now }
 {
-    for place in 0..list.len() {
-        if !checked_word(sound, list[place]).is_told(list, place) {
+    for index in 0..list.len() {
+        if !checked_word(sound, list[index]).is_told(list, index) {
             return false;
         }
     }

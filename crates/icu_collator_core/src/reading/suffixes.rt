@@ -25,7 +25,7 @@ use icu_collator_types::elements::Tag;
 /// A recorded text of two characters or more.
 #[derive(Clone, Copy, Debug)]
 pub(crate) struct LongerText {
-    /// How many characters it has behind its first.
+    /// How many characters it has after its first.
     pub(crate) behind: usize,
     /// Its word.
     pub(crate) word: u32,
@@ -38,7 +38,7 @@ pub(crate) fn is_last(answer: TrieResult) -> bool
     matches!(answer, TrieResult::NoMatch | TrieResult::FinalValue(_))
 }
 
-/// The text with so many characters behind its first that a word makes, if the word has elements.
+/// The text with so many characters after its first that a word makes, if the word has elements.
 #[tactic(auto, unfolding(crate::specs::ReadTexts::text_by))]
 fn text_by(source: &CollationData<'_>, behind: usize, word: u32) -> Option<LongerText>
     ensures { result ≡ text_by (pools_of source.now) behind word }
@@ -50,7 +50,7 @@ fn text_by(source: &CollationData<'_>, behind: usize, word: u32) -> Option<Longe
     }
 }
 
-/// The text with so many characters behind its first that an answer makes, or else the one before.
+/// The text with so many characters after its first that an answer makes, or else the one before.
 pub(super) fn longer_of(
     source: &CollationData<'_>,
     behind: usize,
@@ -69,7 +69,7 @@ pub(super) fn longer_of(
     }
 }
 
-/// The longest text that a trie has from a place of a list on.
+/// The longest text that a trie has from an index of a list on.
 fn longest_text(
     source: &CollationData<'_>,
     trie: &Char16Trie<'_>,
@@ -81,9 +81,9 @@ fn longest_text(
 {
     let mut cursor = trie.iter();
     let mut longest = None;
-    for place in start..list.len() {
-        let answer = cursor.next(list[place]);
-        longest = longer_of(source, place + 1 - start, answer, longest);
+    for index in start..list.len() {
+        let answer = cursor.next(list[index]);
+        longest = longer_of(source, index + 1 - start, answer, longest);
         if is_last(answer) {
             return longest;
         }
@@ -99,8 +99,8 @@ pub(super) fn context_of<'t>(source: &'t CollationData<'_>, word: u32) -> Char16
 }
 
 impl CountingWord<'_> {
-    /// The longest recorded text that begins with the character of the word, by what stands behind it from a place of
-    /// a list on; `None` where there is none but the character alone.
+    /// The longest recorded text that begins with the character of the word, by what stands after it from an index of a
+    /// list on; `None` where there is none but the character alone.
     #[tactic(auto, unfolding(crate::specs::ReadTexts::longer_by))]
     fn found_text(self, list: &[char], start: usize) -> Option<LongerText>
         requires { start ≤ length list.now }

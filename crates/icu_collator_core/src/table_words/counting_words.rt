@@ -14,7 +14,7 @@ use icu_packed_vector::PackedVec;
 /// The word by which a tailoring leaves a character to the root.
 pub(crate) const FALLBACK: u32 = 0xc0;
 
-/// A word, and the data in whose lists it names places.
+/// A word, and the data in whose lists it names indices.
 #[derive(Clone, Copy, Debug)]
 pub(crate) struct CountingWord<'t> {
     /// The word.

@@ -1,4 +1,4 @@
-//! The fields of words, and what stands at places of lists.
+//! The fields of words, and what stands at indices of lists.
 
 ghost use Rattle.std.specs.Prelude.{◌≡◌, ◌^◌, ◌<◌, slice_index};
 ghost use Rattle.icu_collator_types.specs.ElementWords.{has_tag, is_special};
@@ -29,7 +29,7 @@ pub(crate) fn has_form(word: u32, tag: Tag) -> bool
     word & 0xff <= 0xcf && has_tag(word, tag)
 }
 
-/// The place that a word names.
+/// The index that a word names.
 pub(crate) fn index_of(word: u32) -> usize
     ensures index { result ≡ index_of word }
     ensures bound { result < 2 ^ 19 }
@@ -52,31 +52,31 @@ pub(crate) fn digit_value(word: u32) -> u32
     (word >> 8) & 0xf
 }
 
-/// The word at a place of a list, 0 past the end.
-pub(crate) fn word_at(ce32s: &PackedVec<'_, u32>, place: usize) -> u32
-    ensures { result ≡ slice_index ce32s.now place }
+/// The word at an index of a list, 0 past the end.
+pub(crate) fn word_at(ce32s: &PackedVec<'_, u32>, index: usize) -> u32
+    ensures { result ≡ slice_index ce32s.now index }
 {
-    match ce32s.get(place) {
+    match ce32s.get(index) {
         Some(word) => word,
         None => 0,
     }
 }
 
-/// The unit at a place of a list, 0 past the end.
-pub(crate) fn unit_at(contexts: &PackedVec<'_, u16>, place: usize) -> u16
-    ensures { result ≡ slice_index contexts.now place }
+/// The unit at an index of a list, 0 past the end.
+pub(crate) fn unit_at(contexts: &PackedVec<'_, u16>, index: usize) -> u16
+    ensures { result ≡ slice_index contexts.now index }
 {
-    match contexts.get(place) {
+    match contexts.get(index) {
         Some(unit) => unit,
         None => 0,
     }
 }
 
-/// The entry at a place, 0 past the end.
-pub(crate) fn entry_at(ces: &PackedVec<'_, u64>, place: usize) -> u64
-    ensures { result ≡ slice_index ces.now place }
+/// The entry at an index, 0 past the end.
+pub(crate) fn entry_at(ces: &PackedVec<'_, u64>, index: usize) -> u64
+    ensures { result ≡ slice_index ces.now index }
 {
-    match ces.get(place) {
+    match ces.get(index) {
         Some(entry) => entry,
         None => 0,
     }

@@ -1,4 +1,4 @@
-//! The word where nothing stands before or behind a character.
+//! The word where nothing stands before or after a character.
 
 ghost use Rattle.std.specs.Prelude.{◌≡◌};
 ghost use Rattle.icu_collator_core.specs.Pools.{lone_word, unprefixed_word};
@@ -21,7 +21,7 @@ pub(crate) fn unprefixed_word(source: &CollationData<'_>, word: u32) -> u32
     }
 }
 
-/// The word where nothing stands before or behind, and not read as a digit.
+/// The word where nothing stands before or after, and not read as a digit.
 #[tactic(auto, unfolding(crate::specs::Pools::lone_word))]
 pub(crate) fn lone_word(source: &CollationData<'_>, word: u32) -> u32
     ensures { result ≡ lone_word (pools_of source.now) word }

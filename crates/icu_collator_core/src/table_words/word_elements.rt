@@ -27,53 +27,53 @@ pub(crate) fn stated_by(word: u32) -> Option<CollationElement>
     }
 }
 
-/// The element that the word at a place states, if there is a word that states one.
-fn stated_at(ce32s: &PackedVec<'_, u32>, place: usize) -> Option<CollationElement>
-    ensures { option_map element_of result ≡ option_and_then stated_element (slice_get ce32s.now place) }
+/// The element that the word at an index states, if there is a word that states one.
+fn stated_at(ce32s: &PackedVec<'_, u32>, index: usize) -> Option<CollationElement>
+    ensures { option_map element_of result ≡ option_and_then stated_element (slice_get ce32s.now index) }
 {
-    match ce32s.get(place) {
+    match ce32s.get(index) {
         Some(word) => stated_by(word),
         None => None,
     }
 }
 
-/// Appends the elements that the words of a part of a list state. Fails only when out of memory.
+/// Appends the elements that the words of a part of a list state. Fails only if memory is refused.
 fn push_stated(
     ce32s: &PackedVec<'_, u32>,
-    place: usize,
+    index: usize,
     count: usize,
     elements: &mut SmallVec<CollationElement, 32>,
 ) -> Result<(), AllocError>
-    requires { place + count < 2 ^ 32 }
-    ensures { OnOk result (AddsElements elements.old.items (filter_map stated_element (items_at ce32s.now place count)) elements.new.items) }
+    requires { index + count < 2 ^ 32 }
+    ensures { OnOk result (AddsElements elements.old.items (filter_map stated_element (items_at ce32s.now index count)) elements.new.items) }
 {
     for i in 0..count {
-        if let Some(element) = stated_at(ce32s, place + i) {
+        if let Some(element) = stated_at(ce32s, index + i) {
             elements.push(element)?;
         }
     }
     Ok(())
 }
 
-/// Appends the elements of a part of a list. Fails only when out of memory.
+/// Appends the elements of a part of a list. Fails only if memory is refused.
 fn push_unpacked(
     ces: &PackedVec<'_, u64>,
-    place: usize,
+    index: usize,
     count: usize,
     elements: &mut SmallVec<CollationElement, 32>,
 ) -> Result<(), AllocError>
-    requires { place + count < 2 ^ 32 }
-    ensures { OnOk result (AddsElements elements.old.items (map element_of (items_at ces.now place count)) elements.new.items) }
+    requires { index + count < 2 ^ 32 }
+    ensures { OnOk result (AddsElements elements.old.items (map element_of (items_at ces.now index count)) elements.new.items) }
 {
     for i in 0..count {
-        if let Some(bits) = ces.get(place + i) {
+        if let Some(bits) = ces.get(index + i) {
             elements.push(CollationElement::new(bits))?;
         }
     }
     Ok(())
 }
 
-/// Appends the element that a word states, and says whether it states one. Fails only when out of memory.
+/// Appends the element that a word states, and says whether it states one. Fails only if memory is refused.
 fn push_one(word: u32, elements: &mut SmallVec<CollationElement, 32>) -> Result<bool, AllocError>
     ensures found { IfOk result (λ found. found ≡ is_some (stated_element word)) }
     ensures elements { OnOk result (AddsElements elements.old.items (option_to_list (stated_element word)) elements.new.items) }
@@ -98,8 +98,8 @@ pub(crate) fn has_elements(source: &CollationData<'_>, word: u32) -> bool
         || stated_by(word).is_some()
 }
 
-/// Appends the elements of a word that needs no look at other characters, and says whether it is one; of another
-/// word nothing. Fails only when out of memory.
+/// Appends the elements of a word that needs no look at other characters, and says whether it is one; of another word
+/// nothing. Fails only if memory is refused.
 #[tactic(auto, unfolding(crate::specs::Pools::elements_of_word))]
 pub(crate) fn push_elements(
     source: &CollationData<'_>,

@@ -1,4 +1,4 @@
-//! The words of characters, and the lists that words name places in.
+//! The words of characters, and the lists that words name indices in.
 
 ghost use Rattle.std.specs.Prelude.{◌≡◌, IfOk};
 
@@ -6,8 +6,8 @@ use icu_codepointtrie::CodePointTrie;
 use icu_packed_vector::PackedVec;
 use std::alloc::{AllocError, Global};
 
-/// The word of each character, and the lists that words name places in. There is one of the root, and one
-/// of a tailoring, which names places in its own lists.
+/// The word of each character, and the lists that words name indices in. There is one of the root, and one
+/// of a tailoring, which names indices in its own lists.
 #[derive(Debug, PartialEq)]
 pub struct CollationData<'a> {
     /// The words. In a tailoring the fallback, C0 (hex), is the word of a character that it leaves to the root.
@@ -16,8 +16,8 @@ pub struct CollationData<'a> {
     pub ces: PackedVec<'a, u64>,
     /// The words of expansions, and of digits where numbers aren't compared by value.
     pub ce32s: PackedVec<'a, u32>,
-    /// Contexts: each a default word in two units, the upper first, and a unit trie of what may stand
-    /// behind a character or before it. A prefix stands there the nearest character first.
+    /// Contexts: each a default word in two units, the upper first, and a unit trie of what may stand after a character
+    /// or before it. A prefix stands there the nearest character first.
     pub contexts: PackedVec<'a, u16>,
 }
 
@@ -34,7 +34,7 @@ impl Drop for CollationData<'_> {
 }
 
 impl<'a> CollationData<'a> {
-    /// The same data: borrowed lists are borrowed again, others copied. Fails only when out of memory.
+    /// The same data: borrowed lists are borrowed again, others copied. Fails only if memory is refused.
     pub fn clone(&self, alloc: Global) -> Result<CollationData<'a>, AllocError>
         ensures { IfOk result (λ copy. copy ≡ self.now) }
     {

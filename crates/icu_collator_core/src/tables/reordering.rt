@@ -75,7 +75,7 @@ impl<'a> CollationReordering<'a> {
         primary
     }
 
-    /// The same reordering: borrowed lists are borrowed again, others copied. Fails only when out of memory.
+    /// The same reordering: borrowed lists are borrowed again, others copied. Fails only if memory is refused.
     pub fn clone(&self, alloc: Global) -> Result<CollationReordering<'a>, AllocError>
         ensures { IfOk result (λ copy. copy ≡ self.now) }
     {

@@ -9,7 +9,7 @@ use std::alloc::{AllocError, Global};
 /// How many groups there are.
 const GROUP_COUNT: usize = 4;
 
-/// The number of values where 16 words of compressible leads stand behind the groups.
+/// The number of values where 16 words of compressible leads stand after the groups.
 const COUNT_WITH_COMPRESSIBLE_BYTES: usize = 20;
 
 /// The groups of primaries that may be variable, the leads that are compressible, and that of numbers.
@@ -38,7 +38,7 @@ impl<'a> CollationSpecialPrimaries<'a> {
         }
     }
 
-    /// The same groups and leads: borrowed again, or copied. Fails only when out of memory.
+    /// The same groups and leads: borrowed again, or copied. Fails only if memory is refused.
     pub fn clone(&self, alloc: Global) -> Result<CollationSpecialPrimaries<'a>, AllocError>
         ensures { IfOk result (λ copy. copy ≡ self.now) }
     {

@@ -1,5 +1,5 @@
 //! The characters that the texts of a context make unsafe. A node of its units that many jumps share is
-//! looked at once for each character that stands at the place that is asked for.
+//! looked at once for each character that stands at the index that is asked for.
 
 ghost use Rattle.std.specs.Prelude.{◌≡◌, ℤ, OnOk};
 ghost use Rattle.std.specs.Int.{cast_unsigned, w32};
@@ -23,7 +23,7 @@ use std::alloc::{AllocError, Global};
 /// On which side of a character the texts of a context stand.
 #[derive(Clone, Copy, Debug)]
 pub(super) enum Side {
-    /// Behind it: all of their characters are unsafe.
+    /// After it: all of their characters are unsafe.
     Behind,
     /// Before this character, which is unsafe.
     Before(char),
@@ -161,8 +161,8 @@ fn gather_readings(
 ) -> Result<(), AllocError>
     ensures { OnOk result (Grows (λ d. (one : Reading Met × ℤ) × Contains readings.now.items one × ReadingGives (pools_of source.now) test.now.many one.0 (cast_unsigned w32 one.1) d) characters.old.items characters.new.items) }
 {
-    for place in 0..readings.len() {
-        let entry = &readings[place];
+    for index in 0..readings.len() {
+        let entry = &readings[index];
         gather_reading(characters, source, test, entry.0, entry.1.cast_unsigned())?;
     }
     Ok(())
@@ -209,8 +209,8 @@ fn gather_all(
 ) -> Result<(), AllocError>
     ensures { OnOk result (Grows (ContextMakesUnsafe (pools_of source.now) Behind word) characters.old.items characters.new.items) }
 {
-    for place in 0..7usize {
-        gather_last_of(alloc, characters, source, place + 1, 0, word)?;
+    for index in 0..7usize {
+        gather_last_of(alloc, characters, source, index + 1, 0, word)?;
     }
     Ok(())
 }

@@ -35,7 +35,7 @@ fn gather_at(
     Ok(())
 }
 
-/// Where a walk over all codes goes on behind this one: where its word names no context, behind those that have the same.
+/// Where a walk over all codes goes on after this one: where its word names no context, after those that have the same.
 fn next_code(source: &CollationData<'_>, code: u32) -> u32
     requires { code < 0x11_0000 }
     ensures onward { code < result }

@@ -24,8 +24,8 @@ fn are_steps_apart(weights: &[u32]) -> bool
     ensures { result ≡ are_steps_apart 0 weights.now }
 {
     let mut before = 0;
-    for place in 0..weights.len() {
-        let weight = weights[place];
+    for index in 0..weights.len() {
+        let weight = weights[index];
         if begins(before, weight) {
             return false;
         }
@@ -35,8 +35,8 @@ fn are_steps_apart(weights: &[u32]) -> bool
 }
 
 /// Whether the bytes of no weight begin those of another one; a weight of 0 is none. A primary is given as it is, a
-/// secondary or a tertiary with its lead where the lead of a primary is. Takes the time of sorting. Fails only when
-/// out of memory.
+/// secondary or a tertiary with its lead where the lead of a primary is. Takes the time of sorting. Fails only if
+/// memory is refused.
 pub fn are_apart(mut weights: Vec<u32>) -> Result<bool, AllocError>
     ensures { IfOk result (λ yes. IsTrue yes ↔ ((v w : ℕ) → Contains weights.items v → Contains weights.items w → are_apart primary_bytes v w ≡ true)) }
 {

@@ -42,7 +42,7 @@ pub(crate) fn second_count(compressible: bool) -> u32
 /// Where the third byte of a primary would be, counted from the lowest one, if there were enough of them.
 pub(crate) fn third_place(primary: u32, by: u32) -> u32
     requires { by < 2 ^ 29 }
-    ensures place { result ≡ primary / 2 ^ 8 % 256 - 2 + by }
+    ensures index { result ≡ primary / 2 ^ 8 % 256 - 2 + by }
     ensures bound { result < 2 ^ 30 }
 {
     ((primary >> 8) & 0xff).saturating_sub(2) + by
@@ -51,7 +51,7 @@ pub(crate) fn third_place(primary: u32, by: u32) -> u32
 /// Where the second byte would be.
 pub(crate) fn second_place(compressible: bool, primary: u32, by: u32) -> u32
     requires { by < 2 ^ 29 }
-    ensures place { result ≡ primary / 2 ^ 16 % 256 - lowest_second compressible + (primary / 2 ^ 8 % 256 - 2 + by) / 254 }
+    ensures index { result ≡ primary / 2 ^ 16 % 256 - lowest_second compressible + (primary / 2 ^ 8 % 256 - 2 + by) / 254 }
     ensures bound { result < 2 ^ 30 }
 {
     let second = (primary >> 16) & 0xff;

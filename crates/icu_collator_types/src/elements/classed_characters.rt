@@ -2,7 +2,7 @@
 
 ghost use Rattle.std.specs.Prelude.{◌≡◌, ◌==◌, cond};
 ghost use Rattle.std.specs.Option.{unwrap_or};
-ghost use Rattle.icu_codepointtrie.specs.Places.{value_at};
+ghost use Rattle.icu_codepointtrie.specs.Slots.{value_at};
 ghost use Rattle.icu_collator_types.specs.TrieValues.{ccc_from_trie_value};
 
 use super::trie_values::ccc_from_trie_value;

@@ -150,7 +150,7 @@ impl CollationElement32 {
         ((self.bits >> 8) & 0x1f) as usize
     }
 
-    /// The place in the tables that an expansion, a prefix, a contraction, a digit or an offset
+    /// The index in the tables that an expansion, a prefix, a contraction, a digit or an offset
     /// names.
     #[inline]
     pub fn index(self) -> usize

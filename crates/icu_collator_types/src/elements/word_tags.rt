@@ -21,7 +21,7 @@ pub enum Tag {
     BuilderData = 7,
     /// What the word says depends on the characters before.
     Prefix = 8,
-    /// What the word says depends on the characters behind.
+    /// What the word says depends on the characters after.
     Contraction = 9,
     /// A digit, with the word that counts where numbers aren't compared by value.
     Digit = 10,

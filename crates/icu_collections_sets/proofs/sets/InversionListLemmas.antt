@@ -53,7 +53,7 @@ length-ranges_of [] = omega arith
 length-ranges_of (x ∷ []) = omega arith
 length-ranges_of (x ∷ y ∷ xs) = omega (arith, length-ranges_of xs)
 
--- one step of the search for a place
+-- one step of the search for an index
 pub low_side : (xs : List ℕ) (middle c : ℕ) → Rises 0 xs → middle < length xs → ((d : ℕ) → get_or xs middle d ≤ c) → (k d : ℕ) → k < middle + 1 → get_or xs k d ≤ c
 low_side xs middle c r h here k d l = elim (cases_lt k middle) [
   | inl below ↦ omega (arith, Rises_below 0 xs k middle d r below h, here d)
@@ -70,17 +70,17 @@ high_side xs middle c r h here k d l m = elim (cases_lt middle k) [
       subst (λ i. c < get_or xs i d) same (here d)
 ]
 
-pub slice_get-ranges_of : (xs : List ℕ) (place d : ℕ) → place < length xs / 2 → slice_get (ranges_of xs) place ≡ Some (get_or xs (2 * place) d, get_or xs (2 * place + 1) d - 1)
-slice_get-ranges_of [] place d h = absurd (omega arith)
-slice_get-ranges_of (x ∷ []) place d h = absurd (omega arith)
+pub slice_get-ranges_of : (xs : List ℕ) (index d : ℕ) → index < length xs / 2 → slice_get (ranges_of xs) index ≡ Some (get_or xs (2 * index) d, get_or xs (2 * index + 1) d - 1)
+slice_get-ranges_of [] index d h = absurd (omega arith)
+slice_get-ranges_of (x ∷ []) index d h = absurd (omega arith)
 slice_get-ranges_of (x ∷ y ∷ xs) zero d h = refl
-slice_get-ranges_of (x ∷ y ∷ xs) (suc place) d h =
+slice_get-ranges_of (x ∷ y ∷ xs) (suc index) d h =
     let list = x ∷ y ∷ xs in
-    let first : suc (suc (2 * place)) ≡ 2 * suc place = omega arith in
-    let second : suc (suc (2 * place + 1)) ≡ 2 * suc place + 1 = omega arith in
-    slice_get-ranges_of xs place d (omega arith)
-    ∙ ap (λ i. Some (get_or list i d, get_or xs (2 * place + 1) d - 1)) first
-    ∙ ap (λ i. Some (get_or list (2 * suc place) d, get_or list i d - 1)) second
+    let first : suc (suc (2 * index)) ≡ 2 * suc index = omega arith in
+    let second : suc (suc (2 * index + 1)) ≡ 2 * suc index + 1 = omega arith in
+    slice_get-ranges_of xs index d (omega arith)
+    ∙ ap (λ i. Some (get_or list i d, get_or xs (2 * index + 1) d - 1)) first
+    ∙ ap (λ i. Some (get_or list (2 * suc index) d, get_or list i d - 1)) second
 
 -- numbers that rise from a bound on rise from a lower one
 pub Rises_lower : (low least : ℕ) (xs : List ℕ) → low ≤ least → Rises least xs → Rises low xs
@@ -206,45 +206,45 @@ CountsUpTo-end list bound inside last count w = CountsUpTo-all list bound [] ins
 
 -- ---- a stretch of code points, from the count of edges up to its first
 
-pub held_up_to : (xs : List ℕ) (first c place : ℕ) → Rises 0 xs → IsCountUpTo xs first place → first ≤ c → ((d : ℕ) → place < length xs → c < get_or xs place d) → holds xs c ≡ turned false place
-held_up_to xs first c place r n h l =
-    is_in_count false xs c place record {
+pub held_up_to : (xs : List ℕ) (first c index : ℕ) → Rises 0 xs → IsCountUpTo xs first index → first ≤ c → ((d : ℕ) → index < length xs → c < get_or xs index d) → holds xs c ≡ turned false index
+held_up_to xs first c index r n h l =
+    is_in_count false xs c index record {
       within = n.within;
       before = λ k d m. omega (arith, n.before k d m);
-      behind = λ k d m q. high_side xs place c r (omega arith) (λ e. l e (omega arith)) k d m q;
+      behind = λ k d m q. high_side xs index c r (omega arith) (λ e. l e (omega arith)) k d m q;
     }
 
-pub held_first : (xs : List ℕ) (first place : ℕ) → IsCountUpTo xs first place → holds xs first ≡ turned false place
-held_first xs first place n = is_in_count false xs first place n
+pub held_first : (xs : List ℕ) (first index : ℕ) → IsCountUpTo xs first index → holds xs first ≡ turned false index
+held_first xs first index n = is_in_count false xs first index n
 
-pub held_edge : (xs : List ℕ) (first place : ℕ) → Rises 0 xs → IsCountUpTo xs first place → place < length xs → (edge : ℕ) → ((d : ℕ) → edge ≡ get_or xs place d) → holds xs edge ≡ turned false (place + 1)
-held_edge xs first place r n h edge e =
-    is_in_count false xs edge (place + 1) record {
+pub held_edge : (xs : List ℕ) (first index : ℕ) → Rises 0 xs → IsCountUpTo xs first index → index < length xs → (edge : ℕ) → ((d : ℕ) → edge ≡ get_or xs index d) → holds xs edge ≡ turned false (index + 1)
+held_edge xs first index r n h edge e =
+    is_in_count false xs edge (index + 1) record {
       within = omega arith;
-      before = λ k d m. low_side xs place edge r h (λ f. omega (arith, e f)) k d m;
-      behind = λ k d m q. omega (arith, Rises_below 0 xs place k d r (omega arith) q, e d);
+      before = λ k d m. low_side xs index edge r h (λ f. omega (arith, e f)) k d m;
+      behind = λ k d m q. omega (arith, Rises_below 0 xs index k d r (omega arith) q, e d);
     }
 
 abbrev pub HoldsStretch : List ℕ → ℕ → ℕ → Type 0
 HoldsStretch xs first last = (c : ℕ) → first ≤ c → c ≤ last → holds xs c ≡ true
 
-pub stretch_held : (xs : List ℕ) (first last place edge : ℕ) → IsInversionList xs → first ≤ last → IsCountUpTo xs first place → place % 2 ≡ 1 → ((d : ℕ) → edge ≡ get_or xs place d) → IsTrue (nat_lt last edge) ↔ HoldsStretch xs first last
-stretch_held xs first last place edge list h n odd e =
-    let inside : place < length xs = omega (arith, list.even, n.within) in
-    let is_odd : turned false place ≡ true = (turned_out place).0 ∙ grind (arith, nat_tests) in
-    let is_even : turned false (place + 1) ≡ false = (turned_out (place + 1)).0 ∙ grind (arith, nat_tests) in
-    let above : first < edge = omega (arith, n.behind place 0 (omega arith) inside, e 0) in (
-      λ t c a b. let lower : last < edge = grind (arith, nat_tests) in held_up_to xs first c place list.rises n a (λ d l. omega (arith, e d)) ∙ is_odd,
+pub stretch_held : (xs : List ℕ) (first last index edge : ℕ) → IsInversionList xs → first ≤ last → IsCountUpTo xs first index → index % 2 ≡ 1 → ((d : ℕ) → edge ≡ get_or xs index d) → IsTrue (nat_lt last edge) ↔ HoldsStretch xs first last
+stretch_held xs first last index edge list h n odd e =
+    let inside : index < length xs = omega (arith, list.even, n.within) in
+    let is_odd : turned false index ≡ true = (turned_out index).0 ∙ grind (arith, nat_tests) in
+    let is_even : turned false (index + 1) ≡ false = (turned_out (index + 1)).0 ∙ grind (arith, nat_tests) in
+    let above : first < edge = omega (arith, n.behind index 0 (omega arith) inside, e 0) in (
+      λ t c a b. let lower : last < edge = grind (arith, nat_tests) in held_up_to xs first c index list.rises n a (λ d l. omega (arith, e d)) ∙ is_odd,
       λ held. elim (cases_lt last edge) [
         | inl below ↦ grind (arith, nat_tests)
-        | inr past ↦ absurd (false≢true (sym is_even ∙ sym (held_edge xs first place list.rises n inside edge e) ∙ held edge (omega arith) past))
+        | inr past ↦ absurd (false≢true (sym is_even ∙ sym (held_edge xs first index list.rises n inside edge e) ∙ held edge (omega arith) past))
       ],
     )
 
-pub stretch_out : (xs : List ℕ) (first last place : ℕ) → first ≤ last → IsCountUpTo xs first place → (place % 2 ≡ 1 → ⊥) → HoldsStretch xs first last → ⊥
-stretch_out xs first last place h n odd held =
-    let is_even : turned false place ≡ false = (turned_out place).0 ∙ grind (arith, nat_tests) in
-    false≢true (sym is_even ∙ sym (held_first xs first place n) ∙ held first (omega arith) h)
+pub stretch_out : (xs : List ℕ) (first last index : ℕ) → first ≤ last → IsCountUpTo xs first index → (index % 2 ≡ 1 → ⊥) → HoldsStretch xs first last → ⊥
+stretch_out xs first last index h n odd held =
+    let is_even : turned false index ≡ false = (turned_out index).0 ∙ grind (arith, nat_tests) in
+    false≢true (sym is_even ∙ sym (held_first xs first index n) ∙ held first (omega arith) h)
 
 pub low_side_below : (xs : List ℕ) (middle bound : ℕ) → Rises 0 xs → middle < length xs → ((d : ℕ) → get_or xs middle d < bound) → (k d : ℕ) → k < middle + 1 → get_or xs k d < bound
 low_side_below xs middle bound r h here k d l =

@@ -25,11 +25,11 @@ first_is_scalar bs rest c u e = scalar_from_all c (chars rest) (subst (λ cs. sc
 chars_of_one : (c : ℕ) → IsScalar c → chars (encode c) ≡ c ∷ []
 chars_of_one c s = chars_past_char (encode c) [] c (IsUtf8-encode c s) (sym (append-nil (encode c))) ∙ ap (λ cs. c ∷ cs) chars-nil
 
--- the characters up to a place of the text all have the property, and this is left
-pub record UpTo (P : ℕ → Type 0) (text rest : List ℕ) (place : ℕ) : Type 0 where
+-- the characters up to an index of the text all have the property, and this is left
+pub record UpTo (P : ℕ → Type 0) (text rest : List ℕ) (index : ℕ) : Type 0 where
   pub front : List ℕ
   pub joined : text ≡ front ++ rest
-  pub place_is : length front ≡ place
+  pub index_is : length front ≡ index
   pub front_utf8 : IsUtf8 front
   pub rest_utf8 : IsUtf8 rest
   pub all : All P (chars front)
@@ -47,42 +47,42 @@ module _ (P : ℕ → Type 0) (text : List ℕ) where
   all_of_none = subst (All P) (sym chars-nil) (All-nil P)
 
   pub UpTo-start : IsUtf8 text → UpTo P text text 0
-  UpTo-start u = record { front = []; joined = refl; place_is = refl; front_utf8 = IsUtf8-nil; rest_utf8 = u; all = all_of_none }
+  UpTo-start u = record { front = []; joined = refl; index_is = refl; front_utf8 = IsUtf8-nil; rest_utf8 = u; all = all_of_none }
 
-  pub UpTo-more : (rest behind : List ℕ) (place c : ℕ) → UpTo P text rest place → rest ≡ encode c ++ behind → P c → UpTo P text behind (place + length (encode c))
-  UpTo-more rest behind place c u e p =
+  pub UpTo-more : (rest behind : List ℕ) (index c : ℕ) → UpTo P text rest index → rest ≡ encode c ++ behind → P c → UpTo P text behind (index + length (encode c))
+  UpTo-more rest behind index c u e p =
       let s = first_is_scalar rest behind c u.rest_utf8 e in
       record {
         front = u.front ++ encode c;
         joined = u.joined ∙ ap (λ ys. u.front ++ ys) e ∙ sym (append_assoc u.front (encode c) behind);
-        place_is = length-append u.front (encode c) ∙ ap (λ n. n + length (encode c)) u.place_is;
+        index_is = length-append u.front (encode c) ∙ ap (λ n. n + length (encode c)) u.index_is;
         front_utf8 = IsUtf8-append u.front (encode c) u.front_utf8 (IsUtf8-encode c s);
         rest_utf8 = IsUtf8-past_char rest behind c u.rest_utf8 e;
         all = subst (All P) (sym (chars-append u.front (encode c) u.front_utf8 ∙ ap (λ cs. chars u.front ++ cs) (chars_of_one c s))) (All-push P (chars u.front) c u.all p);
       }
 
-  pub UpTo-boundary : (rest : List ℕ) (place : ℕ) → UpTo P text rest place → IsCharBoundary text place
-  UpTo-boundary rest place u = subst (IsCharBoundary text) u.place_is (IsCharBoundary-at_seam text u.front rest u.joined u.rest_utf8)
+  pub UpTo-boundary : (rest : List ℕ) (index : ℕ) → UpTo P text rest index → IsCharBoundary text index
+  UpTo-boundary rest index u = subst (IsCharBoundary text) u.index_is (IsCharBoundary-at_seam text u.front rest u.joined u.rest_utf8)
 
-  pub UpTo-all : (rest : List ℕ) (place : ℕ) → UpTo P text rest place → All P (chars (take place text))
-  UpTo-all rest place u = subst (λ xs. All P (chars xs)) (sym (ap (take place) u.joined ∙ take_at u.front rest place u.place_is)) u.all
+  pub UpTo-all : (rest : List ℕ) (index : ℕ) → UpTo P text rest index → All P (chars (take index text))
+  UpTo-all rest index u = subst (λ xs. All P (chars xs)) (sym (ap (take index) u.joined ∙ take_at u.front rest index u.index_is)) u.all
 
-  pub UpTo-rest : (rest : List ℕ) (place : ℕ) → UpTo P text rest place → drop place text ≡ rest
-  UpTo-rest rest place u = ap (drop place) u.joined ∙ drop_at u.front rest place u.place_is
+  pub UpTo-rest : (rest : List ℕ) (index : ℕ) → UpTo P text rest index → drop index text ≡ rest
+  UpTo-rest rest index u = ap (drop index) u.joined ∙ drop_at u.front rest index u.index_is
 
-  pub UpTo-next : (rest behind : List ℕ) (place c : ℕ) → UpTo P text rest place → rest ≡ encode c ++ behind → ¬ P c
-      → (d : ℕ) (others : List ℕ) → chars (drop place text) ≡ d ∷ others → ¬ P d
-  UpTo-next rest behind place c u e fails d others f =
-      let same = first_of c d (chars behind) others (sym (chars_past_char rest behind c u.rest_utf8 e) ∙ ap chars (sym (UpTo-rest rest place u)) ∙ f) in
+  pub UpTo-next : (rest behind : List ℕ) (index c : ℕ) → UpTo P text rest index → rest ≡ encode c ++ behind → ¬ P c
+      → (d : ℕ) (others : List ℕ) → chars (drop index text) ≡ d ∷ others → ¬ P d
+  UpTo-next rest behind index c u e fails d others f =
+      let same = first_of c d (chars behind) others (sym (chars_past_char rest behind c u.rest_utf8 e) ∙ ap chars (sym (UpTo-rest rest index u)) ∙ f) in
       subst (λ x. ¬ P x) same fails
 
   -- where nothing is left
-  pub UpTo-end : (rest : List ℕ) (place : ℕ) → UpTo P text rest place → length rest ≡ 0 → place ≡ length text
-  UpTo-end rest place u e = sym (ap length u.joined ∙ length-append u.front rest ∙ omega (arith, u.place_is, e))
+  pub UpTo-end : (rest : List ℕ) (index : ℕ) → UpTo P text rest index → length rest ≡ 0 → index ≡ length text
+  UpTo-end rest index u e = sym (ap length u.joined ∙ length-append u.front rest ∙ omega (arith, u.index_is, e))
 
-  pub none_next : (place : ℕ) → place ≡ length text → (d : ℕ) (others : List ℕ) → chars (drop place text) ≡ d ∷ others → ¬ P d
-  none_next place e d others f =
-      let none : drop place text ≡ [] = nil_from_length (drop place text) (simp length-drop (omega arith)) in
+  pub none_next : (index : ℕ) → index ≡ length text → (d : ℕ) (others : List ℕ) → chars (drop index text) ≡ d ∷ others → ¬ P d
+  none_next index e d others f =
+      let none : drop index text ≡ [] = nil_from_length (drop index text) (simp length-drop (omega arith)) in
       λ _. absurd (omega (arith, ap length (sym f ∙ ap chars none ∙ chars-nil)))
 
   pub Behind-start : IsUtf8 text → Behind P text text
@@ -118,7 +118,7 @@ module _ (P : ℕ → Type 0) (text : List ℕ) where
       let same = (same_from_push (chars before) others c d (sym last ∙ ap chars (sym (Behind-rest rest b)) ∙ f)).1 in
       subst (λ x. ¬ P x) same fails
 
-  pub none_before : (place : ℕ) → place ≡ 0 → (d : ℕ) (others : List ℕ) → chars (take place text) ≡ others ++ d ∷ [] → ¬ P d
-  none_before place e d others f =
-      let none : take place text ≡ [] = ap (λ n. take n text) e in
+  pub none_before : (index : ℕ) → index ≡ 0 → (d : ℕ) (others : List ℕ) → chars (take index text) ≡ others ++ d ∷ [] → ¬ P d
+  none_before index e d others f =
+      let none : take index text ≡ [] = ap (λ n. take n text) e in
       λ _. absurd (omega (arith, ap length (sym f ∙ ap chars none ∙ chars-nil), length-append others (d ∷ [])))

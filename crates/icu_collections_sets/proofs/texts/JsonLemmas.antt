@@ -55,9 +55,9 @@ items_of-same (x ∷ xs) (y ∷ ys) e =
 pub same_items : (value : Data) (xs ys : List Data) → as_array value ≡ Some (items_of xs) → as_array value ≡ Some (items_of ys) → xs ≡ ys
 same_items value xs ys h l = items_of-same xs ys (some_same (items_of xs) (items_of ys) (sym h ∙ l))
 
--- the value at a place, by the item there
-pub item_at-map : (items : List Value) (place : ℕ) (item : Value) → place < length items → item ≡ get_or items place item → item_at (map view items) place ≡ view item
-item_at-map items place item h e = get_or-map view items place item null h ∙ ap view (sym e)
+-- the value at an index, by the item there
+pub item_at-map : (items : List Value) (index : ℕ) (item : Value) → index < length items → item ≡ get_or items index item → item_at (map view items) index ≡ view item
+item_at-map items index item h e = get_or-map view items index item null h ∙ ap view (sym e)
 
 -- ---- a set grows by a range
 
@@ -103,27 +103,27 @@ pub SpellSet-none : SpellSet [] []
 SpellSet-none = record { spelled = tt; list = record { even = refl; rises = tt } }
 
 -- one more item, after the others
-pub SpellSet-more : (items : List Data) (place : ℕ) (set : List ℕ) (range : ℕ × ℕ) → place < length items → SpellSet (take place items) set → IsItem (item_at items place) range → least_behind 0 set ≤ range.0 → SpellSet (take (place + 1) items) (set ++ (range.0 ∷ (range.1 + 1) ∷ []))
-SpellSet-more items place set range h w l behind =
+pub SpellSet-more : (items : List Data) (index : ℕ) (set : List ℕ) (range : ℕ × ℕ) → index < length items → SpellSet (take index items) set → IsItem (item_at items index) range → least_behind 0 set ≤ range.0 → SpellSet (take (index + 1) items) (set ++ (range.0 ∷ (range.1 + 1) ∷ []))
+SpellSet-more items index set range h w l behind =
     let last : range.1 + 1 - 1 ≡ range.1 = omega arith in
     let spells = l.spells in
-    let spelled : SpellRanges (take place items ++ (item_at items place ∷ [])) (ranges_of set ++ ((range.0, range.1 + 1 - 1) ∷ [])) =
-    SpellRanges-append (take place items) (ranges_of set) (item_at items place) (range.0, range.1 + 1 - 1) w.spelled (subst (λ n. IsItem (item_at items place) (range.0, n)) (sym last) l) in
+    let spelled : SpellRanges (take index items ++ (item_at items index ∷ [])) (ranges_of set ++ ((range.0, range.1 + 1 - 1) ∷ [])) =
+    SpellRanges-append (take index items) (ranges_of set) (item_at items index) (range.0, range.1 + 1 - 1) w.spelled (subst (λ n. IsItem (item_at items index) (range.0, n)) (sym last) l) in
     record {
-      spelled = subst (λ ds. SpellRanges ds (ranges_of (set ++ (range.0 ∷ (range.1 + 1) ∷ [])))) (sym (take_more items place null h)) (subst (SpellRanges (take place items ++ (item_at items place ∷ []))) (sym (ranges_of-append set range.0 (range.1 + 1) w.list.even)) spelled);
+      spelled = subst (λ ds. SpellRanges ds (ranges_of (set ++ (range.0 ∷ (range.1 + 1) ∷ [])))) (sym (take_more items index null h)) (subst (SpellRanges (take index items ++ (item_at items index ∷ []))) (sym (ranges_of-append set range.0 (range.1 + 1) w.list.even)) spelled);
       list = record {
         even = omega (arith, length-append set (range.0 ∷ (range.1 + 1) ∷ []), w.list.even);
         rises = Rises-append 0 set (range.0 ∷ (range.1 + 1) ∷ []) w.list.rises (behind, omega (arith, spells.rises, spells.within), (omega (arith, spells.rises), omega (arith, spells.within), tt));
       };
     }
 
-pub SpellSet-all : (items : List Data) (place : ℕ) (set : List ℕ) → length items ≤ place → SpellSet (take place items) set → SpellSet items set
-SpellSet-all items place set h w = subst (λ ds. SpellSet ds set) (take_all place items h) w
+pub SpellSet-all : (items : List Data) (index : ℕ) (set : List ℕ) → length items ≤ index → SpellSet (take index items) set → SpellSet items set
+SpellSet-all items index set h w = subst (λ ds. SpellSet ds set) (take_all index items h) w
 
 -- an item that begins too early
-pub IsOrderFault-early : (items : List Data) (place : ℕ) (set : List ℕ) (range : ℕ × ℕ) → place < length items → SpellSet (take place items) set → IsItem (item_at items place) range → range.0 < least_behind 0 set → IsOrderFault items place
-IsOrderFault-early items place [] range h w l early = absurd (omega (arith, least_behind-none))
-IsOrderFault-early items place (x ∷ xs) range h w l early = record {
+pub IsOrderFault-early : (items : List Data) (index : ℕ) (set : List ℕ) (range : ℕ × ℕ) → index < length items → SpellSet (take index items) set → IsItem (item_at items index) range → range.0 < least_behind 0 set → IsOrderFault items index
+IsOrderFault-early items index [] range h w l early = absurd (omega (arith, least_behind-none))
+IsOrderFault-early items index (x ∷ xs) range h w l early = record {
   within = h;
   set = x ∷ xs;
   before = w;
@@ -136,56 +136,56 @@ IsOrderFault-early items place (x ∷ xs) range h w l early = record {
 -- ---- what stands for a set is not refused
 
 -- an item among those that spell ranges spells one
-item_among : (items : List Data) (ranges : List (ℕ × ℕ)) (place : ℕ) → SpellRanges items ranges → place < length items → (range : ℕ × ℕ) × IsItem (item_at items place) range
-item_among [] ranges place h l = absurd (omega arith)
-item_among (i ∷ items) [] place h l = absurd h
+item_among : (items : List Data) (ranges : List (ℕ × ℕ)) (index : ℕ) → SpellRanges items ranges → index < length items → (range : ℕ × ℕ) × IsItem (item_at items index) range
+item_among [] ranges index h l = absurd (omega arith)
+item_among (i ∷ items) [] index h l = absurd h
 item_among (i ∷ items) (r ∷ rs) zero h l = (r, h.0)
-item_among (i ∷ items) (r ∷ rs) (suc place) h l = item_among items rs place h.1 (omega arith)
+item_among (i ∷ items) (r ∷ rs) (suc index) h l = item_among items rs index h.1 (omega arith)
 
-pub no_item_fault : (items : List Data) (place : ℕ) (set : List ℕ) → SpellSet items set → IsItemFault items place → ⊥
-no_item_fault items place set w fault =
-    let found = item_among items (ranges_of set) place w.spelled fault.within in
+pub no_item_fault : (items : List Data) (index : ℕ) (set : List ℕ) → SpellSet items set → IsItemFault items index → ⊥
+no_item_fault items index set w fault =
+    let found = item_among items (ranges_of set) index w.spelled fault.within in
     fault.no_range found.0 found.1
 
 -- the set of the first items ends before the next item begins
-ends_before : (least : ℕ) (items : List Data) (place : ℕ) (full part : List ℕ) (range : ℕ × ℕ) → Rises least full → length full % 2 ≡ 0 → Rises least part → length part % 2 ≡ 0 → SpellRanges items (ranges_of full) → SpellRanges (take place items) (ranges_of part) → place < length items → IsItem (item_at items place) range → least_behind least part ≤ range.0
+ends_before : (least : ℕ) (items : List Data) (index : ℕ) (full part : List ℕ) (range : ℕ × ℕ) → Rises least full → length full % 2 ≡ 0 → Rises least part → length part % 2 ≡ 0 → SpellRanges items (ranges_of full) → SpellRanges (take index items) (ranges_of part) → index < length items → IsItem (item_at items index) range → least_behind least part ≤ range.0
 unfolding least_behind
-ends_before least [] place full part range r e s f w v h l = absurd (omega arith)
-ends_before least (i ∷ items) place [] part range r e s f w v h l = absurd w
-ends_before least (i ∷ items) place (a ∷ []) part range r e s f w v h l = absurd w
+ends_before least [] index full part range r e s f w v h l = absurd (omega arith)
+ends_before least (i ∷ items) index [] part range r e s f w v h l = absurd w
+ends_before least (i ∷ items) index (a ∷ []) part range r e s f w v h l = absurd w
 ends_before least (i ∷ items) zero (a ∷ b ∷ full) [] range r e s f w v h l =
     let same = one_item i range (a, b - 1) l w.0 in
     omega (arith, same.0, r.0)
 ends_before least (i ∷ items) zero (a ∷ b ∷ full) (p ∷ []) range r e s f w v h l = absurd (omega arith)
 ends_before least (i ∷ items) zero (a ∷ b ∷ full) (p ∷ q ∷ part) range r e s f w v h l = absurd v
-ends_before least (i ∷ items) (suc place) (a ∷ b ∷ full) [] range r e s f w v h l = absurd v
-ends_before least (i ∷ items) (suc place) (a ∷ b ∷ full) (p ∷ []) range r e s f w v h l = absurd v
-ends_before least (i ∷ items) (suc place) (a ∷ b ∷ full) (p ∷ q ∷ part) range r e s f w v h l =
+ends_before least (i ∷ items) (suc index) (a ∷ b ∷ full) [] range r e s f w v h l = absurd v
+ends_before least (i ∷ items) (suc index) (a ∷ b ∷ full) (p ∷ []) range r e s f w v h l = absurd v
+ends_before least (i ∷ items) (suc index) (a ∷ b ∷ full) (p ∷ q ∷ part) range r e s f w v h l =
     let same = one_item i (a, b - 1) (p, q - 1) w.0 v.0 in
     let end : b ≡ q = omega (arith, same.1, r.2.0, s.2.0) in
     let rises : Rises (q + 1) full = subst (λ (n : ℕ). Rises (n + 1) full) end r.2.2 in
-    ends_before (q + 1) items place full part range rises (omega arith) s.2.2 (omega arith) w.1 v.1 (omega arith) l
+    ends_before (q + 1) items index full part range rises (omega arith) s.2.2 (omega arith) w.1 v.1 (omega arith) l
 
 not_early : (set : List ℕ) (first : ℕ) → (set ≡ [] → ⊥) → least_behind 0 set ≤ first → first ≤ get_or set (length set - 1) 0 → ⊥
 not_early [] first some behind begins = some refl
 not_early (x ∷ xs) first some behind begins = absurd (omega (arith, least_behind-last 0 x xs))
 
-pub no_order_fault : (items : List Data) (place : ℕ) (set : List ℕ) → SpellSet items set → IsOrderFault items place → ⊥
-no_order_fault items place set w fault =
-    let behind = ends_before 0 items place set fault.set fault.range w.list.rises w.list.even fault.before.list.rises fault.before.list.even w.spelled fault.before.spelled fault.within fault.item in
+pub no_order_fault : (items : List Data) (index : ℕ) (set : List ℕ) → SpellSet items set → IsOrderFault items index → ⊥
+no_order_fault items index set w fault =
+    let behind = ends_before 0 items index set fault.set fault.range w.list.rises w.list.even fault.before.list.rises fault.before.list.even w.spelled fault.before.spelled fault.within fault.item in
     not_early fault.set fault.range.0 fault.some behind fault.begins
 
 pub not_refused : (items : List Data) (set : List ℕ) (error : JsonError) → SpellSet items set → IsRefusedItems items error → error ≡ Memory
 not_refused items set JsonShape w h = absurd h
-not_refused items set (JsonItem place) w h = absurd (no_item_fault items place set w h)
-not_refused items set (JsonOrder place) w h = absurd (no_order_fault items place set w h)
+not_refused items set (JsonItem index) w h = absurd (no_item_fault items index set w h)
+not_refused items set (JsonOrder index) w h = absurd (no_order_fault items index set w h)
 not_refused items set (Strings fault) w h = absurd h
 not_refused items set Memory w h = refl
 
 pub not_refused_json : (value : Data) (set : List ℕ) (error : JsonError) → IsJson value set → IsRefusedJson value error → error ≡ Memory
 not_refused_json value set JsonShape w h = let none : Some (items_of w.items) ≡ None = sym w.is_array ∙ h in cc
-not_refused_json value set (JsonItem place) w h = absurd (no_item_fault h.0 place set (subst (λ ds. SpellSet ds set) (same_items value w.items h.0 w.is_array h.1) w.spell) h.2)
-not_refused_json value set (JsonOrder place) w h = absurd (no_order_fault h.0 place set (subst (λ ds. SpellSet ds set) (same_items value w.items h.0 w.is_array h.1) w.spell) h.2)
+not_refused_json value set (JsonItem index) w h = absurd (no_item_fault h.0 index set (subst (λ ds. SpellSet ds set) (same_items value w.items h.0 w.is_array h.1) w.spell) h.2)
+not_refused_json value set (JsonOrder index) w h = absurd (no_order_fault h.0 index set (subst (λ ds. SpellSet ds set) (same_items value w.items h.0 w.is_array h.1) w.spell) h.2)
 not_refused_json value set (Strings fault) w h = absurd h
 not_refused_json value set Memory w h = refl
 

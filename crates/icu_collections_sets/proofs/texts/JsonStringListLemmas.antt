@@ -50,29 +50,29 @@ texts-same (x ∷ xs) (y ∷ ys) h =
     ap (λ (t : List ℕ). t ∷ xs) (string-same x y head) ∙ ap (λ (ts : List (List ℕ)). y ∷ ts) (texts-same xs ys rest)
 
 -- one more value of a list
-pub map_more : {A : Type 0} (f : A → Data) (xs : List A) (x : A) (values : List Data) (place : ℕ) → place < length values → map f xs ≡ take place values → f x ≡ item_at values place → map f (xs ++ (x ∷ [])) ≡ take (place + 1) values
-map_more f xs x values place h e at =
-    map-append f xs (x ∷ []) ∙ ap (λ (ds : List Data). ds ++ (f x ∷ [])) e ∙ ap (λ (d : Data). take place values ++ (d ∷ [])) at ∙ sym (take_more values place null h)
+pub map_more : {A : Type 0} (f : A → Data) (xs : List A) (x : A) (values : List Data) (index : ℕ) → index < length values → map f xs ≡ take index values → f x ≡ item_at values index → map f (xs ++ (x ∷ [])) ≡ take (index + 1) values
+map_more f xs x values index h e at =
+    map-append f xs (x ∷ []) ∙ ap (λ (ds : List Data). ds ++ (f x ∷ [])) e ∙ ap (λ (d : Data). take index values ++ (d ∷ [])) at ∙ sym (take_more values index null h)
 
-pub map_more_texts : (xs : List (String Global)) (x : String Global) (values : List Data) (place : ℕ) → place < length values → map string (map string_bytes xs) ≡ take place values → string (string_bytes x) ≡ item_at values place
-    → map string (map string_bytes (xs ++ (x ∷ []))) ≡ take (place + 1) values
-map_more_texts xs x values place h e at =
-    ap (map string) (map-append string_bytes xs (x ∷ [])) ∙ map_more string (map string_bytes xs) (string_bytes x) values place h e at
+pub map_more_texts : (xs : List (String Global)) (x : String Global) (values : List Data) (index : ℕ) → index < length values → map string (map string_bytes xs) ≡ take index values → string (string_bytes x) ≡ item_at values index
+    → map string (map string_bytes (xs ++ (x ∷ []))) ≡ take (index + 1) values
+map_more_texts xs x values index h e at =
+    ap (map string) (map-append string_bytes xs (x ∷ [])) ∙ map_more string (map string_bytes xs) (string_bytes x) values index h e at
 
 -- an array with a value that is no text
-pub no_texts : (value : Data) (items : List Value) (texts : List (List ℕ)) (place : ℕ) (item : Value) → Some (items_of (map view items)) ≡ as_array value → place < length items → item ≡ get_or items place item → as_str (view item) ≡ None → as_array value ≡ Some (items_of (map string texts)) → ⊥
-no_texts value items texts place item e h at none is =
+pub no_texts : (value : Data) (items : List Value) (texts : List (List ℕ)) (index : ℕ) (item : Value) → Some (items_of (map view items)) ≡ as_array value → index < length items → item ≡ get_or items index item → as_str (view item) ≡ None → as_array value ≡ Some (items_of (map string texts)) → ⊥
+no_texts value items texts index item e h at none is =
     let same : map view items ≡ map string texts = same_items value (map view items) (map string texts) (sym e) is in
     let count = ap length same in
-    let inside : place < length texts = omega (arith, h, length-map items view, length-map texts string, count) in
-    let here : view item ≡ string (get_or texts place []) = sym (item_at-map items place item h at) ∙ ap (λ (ds : List Data). item_at ds place) same ∙ get_or-map string texts place [] null inside in
-    let some : None ≡ Some (get_or texts place []) = sym none ∙ ap as_str here in
+    let inside : index < length texts = omega (arith, h, length-map items view, length-map texts string, count) in
+    let here : view item ≡ string (get_or texts index []) = sym (item_at-map items index item h at) ∙ ap (λ (ds : List Data). item_at ds index) same ∙ get_or-map string texts index [] null inside in
+    let some : None ≡ Some (get_or texts index []) = sym none ∙ ap as_str here in
     cc
 
--- the value of a string at its place
-pub value_at : (strings : List (String Global)) (place : ℕ) (text : String Global) → place < length strings → text ≡ get_or strings place text → string (string_bytes text) ≡ item_at (map string (map string_bytes strings)) place
-value_at strings place text h e =
-    ap string (text_at-map strings place text h e) ∙ sym (get_or-map string (map string_bytes strings) place [] null (omega (arith, length-map strings string_bytes)))
+-- the value of a string at its index
+pub value_at : (strings : List (String Global)) (index : ℕ) (text : String Global) → index < length strings → text ≡ get_or strings index text → string (string_bytes text) ≡ item_at (map string (map string_bytes strings)) index
+value_at strings index text h e =
+    ap string (text_at-map strings index text h e) ∙ sym (get_or-map string (map string_bytes strings) index [] null (omega (arith, length-map strings string_bytes)))
 
 -- ---- what is refused
 
@@ -87,8 +87,8 @@ refused_list value list texts strings JsonShape has are h = λ items others shap
     let same : shape.list ≡ list = same_found value shape.list list (codes "code_points") shape.has.has_list has.has_list in
     let none : None ≡ Some (items_of items) = sym h ∙ ap as_array (sym same) ∙ shape.is_list in
     cc
-refused_list value list texts strings (JsonItem place) has are h = (h.0, strings, HasShape-members value list texts h.0 strings has h.1 are, h.2)
-refused_list value list texts strings (JsonOrder place) has are h = (h.0, strings, HasShape-members value list texts h.0 strings has h.1 are, h.2)
+refused_list value list texts strings (JsonItem index) has are h = (h.0, strings, HasShape-members value list texts h.0 strings has h.1 are, h.2)
+refused_list value list texts strings (JsonOrder index) has are h = (h.0, strings, HasShape-members value list texts h.0 strings has h.1 are, h.2)
 refused_list value list texts strings (Strings fault) has are h = absurd h
 refused_list value list texts strings Memory has are h = tt
 
@@ -96,8 +96,8 @@ pub refused_texts : (value list texts : Data) (error : JsonError) → HasMembers
 refused_texts value list texts JsonShape has h = λ items others shape.
     let same : shape.texts ≡ texts = same_found value shape.texts texts (codes "strings") shape.has.has_texts has.has_texts in
     h others (ap as_array (sym same) ∙ shape.are_texts)
-refused_texts value list texts (JsonItem place) has h = absurd h
-refused_texts value list texts (JsonOrder place) has h = absurd h
+refused_texts value list texts (JsonItem index) has h = absurd h
+refused_texts value list texts (JsonOrder index) has h = absurd h
 refused_texts value list texts (Strings fault) has h = absurd h
 refused_texts value list texts Memory has h = tt
 
@@ -123,16 +123,16 @@ less≢greater h = cc
 less≢equal : Less ≡ Equal → ⊥
 less≢equal h = cc
 
-rising_to : (texts : List (List ℕ)) (place : ℕ) → AreStrings texts → 0 < place → place < length texts → slice_cmp nat_cmp (text_at texts (place - 1)) (text_at texts place) ≡ Less
-rising_to texts place w h l =
-    let same : place - 1 + 1 ≡ place = omega arith in
-    subst (λ i. slice_cmp nat_cmp (text_at texts (place - 1)) (text_at texts i) ≡ Less) same (w.rising (place - 1) (omega arith))
+rising_to : (texts : List (List ℕ)) (index : ℕ) → AreStrings texts → 0 < index → index < length texts → slice_cmp nat_cmp (text_at texts (index - 1)) (text_at texts index) ≡ Less
+rising_to texts index w h l =
+    let same : index - 1 + 1 ≡ index = omega arith in
+    subst (λ i. slice_cmp nat_cmp (text_at texts (index - 1)) (text_at texts i) ≡ Less) same (w.rising (index - 1) (omega arith))
 
-no_fault_at : (texts : List (List ℕ)) (place : ℕ) (fault : InvalidStringList) → AreStrings texts → place < length texts → IsFaultAt texts place fault → ⊥
-no_fault_at texts place (InvalidStringLength text) w l h = w.several place l h.1
-no_fault_at texts place (StringListNotUnique text) w l h =
-    less≢equal (sym (rising_to texts place w h.2 l) ∙ ap (λ t. slice_cmp nat_cmp t (text_at texts place)) h.3 ∙ tied_itself nat_list_cmp_total (text_at texts place))
-no_fault_at texts place (StringListNotSorted before text) w l h = less≢greater (sym (rising_to texts place w h.3 l) ∙ h.4)
+no_fault_at : (texts : List (List ℕ)) (index : ℕ) (fault : InvalidStringList) → AreStrings texts → index < length texts → IsFaultAt texts index fault → ⊥
+no_fault_at texts index (InvalidStringLength text) w l h = w.several index l h.1
+no_fault_at texts index (StringListNotUnique text) w l h =
+    less≢equal (sym (rising_to texts index w h.2 l) ∙ ap (λ t. slice_cmp nat_cmp t (text_at texts index)) h.3 ∙ tied_itself nat_list_cmp_total (text_at texts index))
+no_fault_at texts index (StringListNotSorted before text) w l h = less≢greater (sym (rising_to texts index w h.3 l) ∙ h.4)
 
 one_shape : (value : Data) (items others : List Data) (strings texts : List (List ℕ)) → HasShape value items strings → HasShape value others texts → (items ≡ others) × (strings ≡ texts)
 one_shape value items others strings texts h l =
@@ -144,16 +144,16 @@ one_shape value items others strings texts h l =
 
 pub not_refused_string_list : (value : Data) (set : CodePointsAndStrings) (error : JsonError) → IsStringListJson value set → IsRefusedStringList value error → error ≡ Memory
 not_refused_string_list value set JsonShape w h = absurd (h w.items set.strings w.shape)
-not_refused_string_list value set (JsonItem place) w h =
+not_refused_string_list value set (JsonItem index) w h =
     let same = one_shape value w.items h.0 set.strings h.1 w.shape h.2 in
-    absurd (no_item_fault h.0 place set.code_points (subst (λ ds. SpellSet ds set.code_points) same.0 w.spell) h.3)
-not_refused_string_list value set (JsonOrder place) w h =
+    absurd (no_item_fault h.0 index set.code_points (subst (λ ds. SpellSet ds set.code_points) same.0 w.spell) h.3)
+not_refused_string_list value set (JsonOrder index) w h =
     let same = one_shape value w.items h.0 set.strings h.1 w.shape h.2 in
-    absurd (no_order_fault h.0 place set.code_points (subst (λ ds. SpellSet ds set.code_points) same.0 w.spell) h.3)
+    absurd (no_order_fault h.0 index set.code_points (subst (λ ds. SpellSet ds set.code_points) same.0 w.spell) h.3)
 not_refused_string_list value set (Strings fault) w h =
     let same = one_shape value w.items h.0 set.strings h.1 w.shape h.2 in
     let first = h.4 in
-    absurd (no_fault_at h.1 first.place fault (subst AreStrings same.1 w.strings) first.within first.wrong)
+    absurd (no_fault_at h.1 first.index fault (subst AreStrings same.1 w.strings) first.within first.wrong)
 not_refused_string_list value set Memory w h = refl
 
 made : List ℕ → List (List ℕ) → CodePointsAndStrings

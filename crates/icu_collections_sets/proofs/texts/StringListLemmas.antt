@@ -36,19 +36,19 @@ chars_more text rest c u e more one =
 pub AreStringsUpTo-none : (texts : List (List ℕ)) → AreStringsUpTo texts 0
 AreStringsUpTo-none texts = record { several = λ k h. absurd (omega arith); rising = λ k h. absurd (omega arith) }
 
-pub AreStringsUpTo-more : (texts : List (List ℕ)) (place next : ℕ) → place + 1 ≡ next → AreStringsUpTo texts place → IsOffence texts place None → AreStringsUpTo texts next
-AreStringsUpTo-more texts place next e w h = record {
-  several = λ k l. elim (cases_lt k place) [
+pub AreStringsUpTo-more : (texts : List (List ℕ)) (index next : ℕ) → index + 1 ≡ next → AreStringsUpTo texts index → IsOffence texts index None → AreStringsUpTo texts next
+AreStringsUpTo-more texts index next e w h = record {
+  several = λ k l. elim (cases_lt k index) [
     | inl below ↦ w.several k below
-    | inr up ↦ let same : place ≡ k = omega arith in subst (λ i. length (chars (text_at texts i)) ≡ 1 → ⊥) same h.0
+    | inr up ↦ let same : index ≡ k = omega arith in subst (λ i. length (chars (text_at texts i)) ≡ 1 → ⊥) same h.0
   ];
-  rising = λ k l. elim (cases_lt (k + 1) place) [
+  rising = λ k l. elim (cases_lt (k + 1) index) [
     | inl below ↦ w.rising k below
     | inr up ↦
-        let same : place ≡ k + 1 = omega arith in
-        let before : place - 1 ≡ k = omega arith in
+        let same : index ≡ k + 1 = omega arith in
+        let before : index - 1 ≡ k = omega arith in
         let first = h.1 (omega arith) in
-        subst (λ i. slice_cmp nat_cmp (text_at texts i) (text_at texts (k + 1)) ≡ Less) before (subst (λ i. slice_cmp nat_cmp (text_at texts (place - 1)) (text_at texts i) ≡ Less) same first)
+        subst (λ i. slice_cmp nat_cmp (text_at texts i) (text_at texts (k + 1)) ≡ Less) before (subst (λ i. slice_cmp nat_cmp (text_at texts (index - 1)) (text_at texts i) ≡ Less) same first)
   ];
 }
 
@@ -56,9 +56,9 @@ AreStringsUpTo-more texts place next e w h = record {
 pub same_texts : (xs ys : List ℕ) → slice_cmp nat_cmp xs ys ≡ Equal → xs ≡ ys
 same_texts xs ys h = (bytes_eq-Decides xs ys).0 (sym (is_eq-slice_cmp xs ys) ∙ ap is_eq h)
 
--- the text at a place, by the string there
-pub text_at-map : (strings : List (String Global)) (place : ℕ) (text : String Global) → place < length strings → text ≡ get_or strings place text → string_bytes text ≡ text_at (map string_bytes strings) place
-text_at-map strings place text h e = ap string_bytes e ∙ sym (get_or-map string_bytes strings place text [] h)
+-- the text at an index, by the string there
+pub text_at-map : (strings : List (String Global)) (index : ℕ) (text : String Global) → index < length strings → text ≡ get_or strings index text → string_bytes text ≡ text_at (map string_bytes strings) index
+text_at-map strings index text h e = ap string_bytes e ∙ sym (get_or-map string_bytes strings index text [] h)
 
 turned_over : (o : Ordering) → o ≡ Less → is_lt (ordering_reverse o) ≡ false
 turned_over Less h = refl
@@ -84,37 +84,37 @@ greater≢equal h = cc
 itself : (xs ys : List ℕ) → xs ≡ ys → slice_cmp nat_cmp xs ys ≡ Equal
 itself xs ys h = ap (slice_cmp nat_cmp xs) (sym h) ∙ tied_itself nat_list_cmp_total xs
 
-missing : (strings : List (String Global)) (text : List ℕ) (place : ℕ) → AllWithin (λ s. slice_cmp nat_cmp (string_bytes s) text ≡ Less) strings 0 place → AllWithin (λ s. slice_cmp nat_cmp (string_bytes s) text ≡ Greater) strings place (length strings)
+missing : (strings : List (String Global)) (text : List ℕ) (index : ℕ) → AllWithin (λ s. slice_cmp nat_cmp (string_bytes s) text ≡ Less) strings 0 index → AllWithin (λ s. slice_cmp nat_cmp (string_bytes s) text ≡ Greater) strings index (length strings)
     → (k : ℕ) → k < length strings → get_or (map string_bytes strings) k text ≡ text → ⊥
-missing [] text place low high k h e = absurd (omega arith)
-missing (s ∷ strings) text place low high k h e =
+missing [] text index low high k h e = absurd (omega arith)
+missing (s ∷ strings) text index low high k h e =
     let list = s ∷ strings in
     let same = itself _ _ (sym (get_or-map string_bytes list k s text h) ∙ e) in
-    elim (cases_lt k place) [
+    elim (cases_lt k index) [
       | inl below ↦ less≢equal (sym (low k s (omega arith) below) ∙ same)
       | inr up ↦ greater≢equal (sym (high k s (omega arith) h) ∙ same)
     ]
 
 -- what a binary search for a text finds
 pub searched_text : (strings : List (String Global)) (text : List ℕ) (r : Result ℕ ℕ) → AreStrings (map string_bytes strings) → IsSearchInRange r (length strings) → IsBinarySearchResult (λ s. slice_cmp nat_cmp (string_bytes s) text) strings r → IsTrue (is_ok r) ↔ Contains (map string_bytes strings) text
-searched_text [] text (Ok place) w within found = absurd (omega arith)
-searched_text (s ∷ strings) text (Ok place) w within found =
+searched_text [] text (Ok index) w within found = absurd (omega arith)
+searched_text (s ∷ strings) text (Ok index) w within found =
     let list = s ∷ strings in
-    let same : get_or (map string_bytes list) place text ≡ text = get_or-map string_bytes list place s text within ∙ same_texts _ _ (found s) in
+    let same : get_or (map string_bytes list) index text ≡ text = get_or-map string_bytes list index s text within ∙ same_texts _ _ (found s) in
     let count = length-map list string_bytes in
-    let inside : place < length (map string_bytes list) = omega arith in
-    (λ t. (place, inside, same), λ h. refl)
-searched_text strings text (Err place) w within found =
+    let inside : index < length (map string_bytes list) = omega arith in
+    (λ t. (index, inside, same), λ h. refl)
+searched_text strings text (Err index) w within found =
     let parts = found (searchable_from_sorted nat_list_cmp_total string_bytes strings text (sorted_strings strings w)) in
     let count = length-map strings string_bytes in
-    (λ t. absurd (false≢true t), λ h. absurd (missing strings text place parts.0 parts.1 h.0 (omega (arith, h.1)) h.2))
+    (λ t. absurd (false≢true t), λ h. absurd (missing strings text index parts.0 parts.1 h.0 (omega (arith, h.1)) h.2))
 
 -- the fault of a string that equals the one before
-pub not_unique : (strings : List (String Global)) (place : ℕ) (text : String Global) → place < length strings → AreStringsUpTo (map string_bytes strings) place → IsOffence (map string_bytes strings) place (Some NotUnique)
-    → text ≡ get_or strings place text → IsFirstFault (map string_bytes strings) (StringListNotUnique text)
-not_unique strings place text within before offence is = record {
-  place = place;
+pub not_unique : (strings : List (String Global)) (index : ℕ) (text : String Global) → index < length strings → AreStringsUpTo (map string_bytes strings) index → IsOffence (map string_bytes strings) index (Some NotUnique)
+    → text ≡ get_or strings index text → IsFirstFault (map string_bytes strings) (StringListNotUnique text)
+not_unique strings index text within before offence is = record {
+  index = index;
   within = omega (arith, length-map strings string_bytes);
   before = before;
-  wrong = (text_at-map strings place text within is, offence.0, offence.1, same_texts _ _ offence.2);
+  wrong = (text_at-map strings index text within is, offence.0, offence.1, same_texts _ _ offence.2);
 }

@@ -33,7 +33,7 @@ impl Model for CodePointInversionListBuilder {
 }
 
 /// How many edges are below a bound.
-fn place_of(edges: &[u32], bound: u32) -> usize
+fn index_of(edges: &[u32], bound: u32) -> usize
     requires { Rises 0 edges.now }
     ensures { IsCountBelow edges.now bound result }
 {
@@ -51,13 +51,13 @@ fn place_of(edges: &[u32], bound: u32) -> usize
 }
 
 /// Puts edges in the place of others. The edges are as before after an error.
-fn put(edges: &mut Vec<u32>, places: Range<usize>, with: &[u32]) -> Result<(), AllocError>
-    requires start { places.start ≤ places.end }
-    requires end { places.end ≤ vec_len edges.old }
-    ensures ok { OnOk result (edges.new.items ≡ take places.start edges.old.items ++ (with.now ++ drop places.end edges.old.items)) }
+fn put(edges: &mut Vec<u32>, indices: Range<usize>, with: &[u32]) -> Result<(), AllocError>
+    requires start { indices.start ≤ indices.end }
+    requires end { indices.end ≤ vec_len edges.old }
+    ensures ok { OnOk result (edges.new.items ≡ take indices.start edges.old.items ++ (with.now ++ drop indices.end edges.old.items)) }
     ensures err { OnErr result (edges.new.items ≡ edges.old.items) }
 {
-    let _ = edges.splice(places, with.iter().copied())?;
+    let _ = edges.splice(indices, with.iter().copied())?;
     Ok(())
 }
 
@@ -65,25 +65,25 @@ fn put(edges: &mut Vec<u32>, places: Range<usize>, with: &[u32]) -> Result<(), A
 /// after an error.
 fn put_stretch(
     edges: &mut Vec<u32>,
-    places: Range<usize>,
+    indices: Range<usize>,
     opens: bool,
     from: u32,
     closes: bool,
     till: u32,
 ) -> Result<(), AllocError>
-    requires start { places.start ≤ places.end }
-    requires end { places.end ≤ vec_len edges.old }
-    ensures ok { OnOk result (edges.new.items ≡ take places.start edges.old.items ++ (stretch opens from closes till ++ drop places.end edges.old.items)) }
+    requires start { indices.start ≤ indices.end }
+    requires end { indices.end ≤ vec_len edges.old }
+    ensures ok { OnOk result (edges.new.items ≡ take indices.start edges.old.items ++ (stretch opens from closes till ++ drop indices.end edges.old.items)) }
     ensures err { OnErr result (edges.new.items ≡ edges.old.items) }
 {
     if opens && closes {
-        put(edges, places, &[from, till])
+        put(edges, indices, &[from, till])
     } else if opens {
-        put(edges, places, &[from])
+        put(edges, indices, &[from])
     } else if closes {
-        put(edges, places, &[till])
+        put(edges, indices, &[till])
     } else {
-        put(edges, places, &[])
+        put(edges, indices, &[])
     }
 }
 
@@ -104,8 +104,8 @@ impl CodePointInversionListBuilder {
         ensures ok { OnOk result (IsSetTo held (is_within from till) self.old self.new) }
         ensures err { OnErr result (self.new ≡ self.old) }
     {
-        let front = place_of(self.edges.as_slice(), from);
-        let back = place_of(self.edges.as_slice(), till + 1);
+        let front = index_of(self.edges.as_slice(), from);
+        let back = index_of(self.edges.as_slice(), till + 1);
         let opens = (front % 2 == 1) != held;
         let closes = (back % 2 == 1) != held;
         put_stretch(&mut self.edges, front..back, opens, from, closes, till)?;

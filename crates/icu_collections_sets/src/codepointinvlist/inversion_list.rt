@@ -186,15 +186,15 @@ impl<'a> CodePointInversionList<'a> {
         self.edges.len() / 2
     }
 
-    /// The range at a place, both ends included, or `None` past the last.
-    pub fn get_nth_range(&self, place: usize) -> Option<RangeInclusive<u32>>
-        ensures { MatchOption result (length (ranges_of self.now) ≤ place) (λ range. slice_get (ranges_of self.now) place ≡ Some (range_inclusive_start range, range_inclusive_end range) × (range_inclusive_exhausted range ≡ false)) }
+    /// The range at an index, both ends included, or `None` past the last.
+    pub fn get_nth_range(&self, index: usize) -> Option<RangeInclusive<u32>>
+        ensures { MatchOption result (length (ranges_of self.now) ≤ index) (λ range. slice_get (ranges_of self.now) index ≡ Some (range_inclusive_start range, range_inclusive_end range) × (range_inclusive_exhausted range ≡ false)) }
     {
-        if place >= self.edges.len() / 2 {
+        if index >= self.edges.len() / 2 {
             return None;
         }
-        let start = self.edges.at(2 * place);
-        let end = self.edges.at(2 * place + 1);
+        let start = self.edges.at(2 * index);
+        let end = self.edges.at(2 * index + 1);
         Some(start..=end - 1)
     }
 
@@ -268,8 +268,8 @@ impl<'a> CodePointInversionList<'a> {
         if first > last {
             return true;
         }
-        let place = edges_up_to(&self.edges, first);
-        place % 2 == 1 && last < self.edges.at(place)
+        let index = edges_up_to(&self.edges, first);
+        index % 2 == 1 && last < self.edges.at(index)
     }
 
     /// Whether the set holds every code point from the start of the range to its end, surrogates

@@ -22,9 +22,9 @@ impl CodePointInversionList<'_> {
         ensures prefix { All (λ c. holds self.now c ≡ held) (chars (take result text.now)) }
         ensures longest { (c : ℕ) (behind : List ℕ) → chars (drop result text.now) ≡ c ∷ behind → holds self.now c ≢ held }
     {
-        for (place, character) in text.char_indices() {
+        for (index, character) in text.char_indices() {
             if !self.is_so(character, held) {
-                return place;
+                return index;
             }
         }
         text.len()
@@ -38,11 +38,11 @@ impl CodePointInversionList<'_> {
         ensures longest { (c : ℕ) (before : List ℕ) → chars (take result text.now) ≡ before ++ c ∷ [] → holds self.now c ≢ held }
     {
         let mut start = text.len();
-        for (place, character) in text.char_indices().rev() {
+        for (index, character) in text.char_indices().rev() {
             if !self.is_so(character, held) {
                 return start;
             }
-            start = place;
+            start = index;
         }
         start
     }

@@ -25,12 +25,12 @@ fn read_edges(alloc: Global, items: &[Value]) -> Result<Vec<u32>, JsonError>
 {
     let mut edges = Vec::new(alloc);
     let mut least = 0;
-    for (place, item) in items.iter().enumerate() {
+    for (index, item) in items.iter().enumerate() {
         let Some((first, last)) = read_item(item) else {
-            return Err(JsonError::JsonItem(place));
+            return Err(JsonError::JsonItem(index));
         };
         if first < least {
-            return Err(JsonError::JsonOrder(place));
+            return Err(JsonError::JsonOrder(index));
         }
         edges.extend_from_slice(&[first, last + 1])?;
         least = last + 2;
@@ -57,7 +57,7 @@ impl CodePointInversionList<'_> {
 
 impl CodePointInversionList<'static> {
     /// The set that a JSON array stands for, in memory of its own; `X-X` is taken for `X`. Refused
-    /// as `JsonShape` for a value that is no array; else for the first place i at fault as
+    /// as `JsonShape` for a value that is no array; else for the first index i at fault as
     /// `JsonItem(i)` where the item is no text `X` or `X-Y`, or has Y below X, or as `JsonOrder(i)`
     /// where X is at most one past the end of the item before; or as `Memory`.
     pub fn from_json(

@@ -12,9 +12,9 @@ pub enum JsonError {
     /// The value does not have the shape of a set: an array, or for a set with strings an object
     /// of two members, the second an array of strings.
     JsonShape,
-    /// The item at this place is the first at fault: it is not a text that spells a range.
+    /// The item at this index is the first at fault: it is not a text that spells a range.
     JsonItem(usize),
-    /// The item at this place is the first at fault: its range begins at most one past the end of
+    /// The item at this index is the first at fault: its range begins at most one past the end of
     /// the range before.
     JsonOrder(usize),
     /// The strings are not those of a set.
@@ -43,8 +43,8 @@ impl fmt::Display for JsonError {
     fn fmt<W: fmt::Write>(&self, f: &mut fmt::Formatter<W>) -> fmt::Result {
         match self {
             JsonError::JsonShape => f.write_str("not the shape of a set"),
-            JsonError::JsonItem(place) => write!(f, "no range at item {place}"),
-            JsonError::JsonOrder(place) => write!(f, "not sorted at item {place}"),
+            JsonError::JsonItem(index) => write!(f, "no range at item {index}"),
+            JsonError::JsonOrder(index) => write!(f, "not sorted at item {index}"),
             JsonError::Strings(fault) => write!(f, "{fault}"),
             JsonError::Memory => f.write_str("out of memory"),
         }

@@ -7,7 +7,7 @@ use Rattle.icu_normalizer.proofs.composed.ComposingLemmas.{composed_nothing}
 use Rattle.icu_normalizer.proofs.passed.SkipLemmas.{composed_parts}
 
 module _ (canonical : Canonical) where
-  -- nothing is behind
+  -- nothing follows
   pub apart_nothing : (b : List ℕ) → b ≡ [] → IsComposedApart canonical b
   apart_nothing b none xs =
       ap (λ l. composed canonical (xs ++ l)) none ∙ ap (composed canonical) (append-nil xs) ∙ sym (append-nil (composed canonical xs))

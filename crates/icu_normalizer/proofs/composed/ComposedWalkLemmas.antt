@@ -1,4 +1,4 @@
--- Reading a text beside the composed list of its first cluster, up to the first place at which they differ.
+-- Reading a text beside the composed list of its first cluster, up to the first index at which they differ.
 use Rattle.std.proofs.Common.{◌≡◌, ℕ, ◌+◌, ◌<◌, ◌≤◌, ◌⊎◌, inl, inr, ⊎_elim, List, [], ◌∷◌, ◌++◌, length, length-append, get_or, refl, sym, ap, ap₂, subst, ◌∙◌, arith, append_assoc, append-nil}
 use Rattle.std.proofs.lemmas.Bool.{cases_lt, cases_eq}
 use Rattle.std.proofs.lemmas.List.{append_cancel_left, append_cancel_right, get_or_append_left, get_or_at, get_or_past, get_or_push}
@@ -106,7 +106,7 @@ module _ (canonical : Canonical) (ok : IsForming canonical) where
       let none : [] ≡ y ∷ ys = same_front (weight canonical ok) (weighs canonical ok) text (y ∷ ys) (composed canonical text) [] (sym e ∙ sym (append-nil (composed canonical text))) (total_composed canonical ok text known) in
       omega (arith, ap length none)
 
-  -- behind a front that is its own composed list, the text is composed anew
+  -- after a front that is its own composed list, the text is composed anew
   alone_from : (text rest front back behind tail : List ℕ) → AreCharacters text → text ≡ front ++ rest → rest ≡ back ++ behind → composed canonical text ≡ front ++ tail
       → (front ≡ []) ⊎ ((c : ℕ) × (others : List ℕ) × (back ≡ c ∷ others) × (c < 0x300)) → composed canonical text ≡ front ++ composed canonical rest
   alone_from text rest front back behind tail known whole part form (inl none) =

@@ -1,4 +1,4 @@
--- Composing a steady character and one mark behind it.
+-- Composing a steady character and one mark after it.
 use Rattle.std.proofs.Common.{◌≡◌, ℕ, ◌+◌, ◌<◌, ◌≤◌, max, List, [], ◌∷◌, ◌++◌, length, length-append, Some, None, refl, sym, ap, ap₂, subst, ◌∙◌, arith, append_assoc, append-nil}
 use Rattle.std.proofs.lemmas.Bool.Decides.{nat_tests}
 use Rattle.std.specs.List.{AllByRecursion}
@@ -20,7 +20,7 @@ use Rattle.icu_normalizer.proofs.writing.SinkLemmas.{joined_front}
 use Rattle.icu_normalizer.proofs.passed.SkipLemmas.{steady_low}
 use Rattle.icu_normalizer.proofs.cuts.TextCutLemmas.{cut_here}
 
--- ---- a mark behind characters of no higher class
+-- ---- a mark after characters of no higher class
 
 module _ (class : ℕ → ℕ) (mark : ℕ) where
   put_behind : (c : ℕ) (ds : List ℕ) → class c ≤ class mark → put_in_order class c (ds ++ mark ∷ []) ≡ put_in_order class c ds ++ mark ∷ []
@@ -99,7 +99,7 @@ module _ (canonical : Canonical) where
       sym (recomposed_begun canonical d (marks_in_order canonical.class ds) (omega (arith, starter))) ∙ ap (recomposed canonical) (sym (steady_list c d ds list starter))
       ∙ ap (λ l. recomposed canonical (marks_in_order canonical.class l)) (sym (append-nil (canonical.full c))) ∙ own
 
-  -- a mark behind a steady character composes with the character itself
+  -- a mark after a steady character composes with the character itself
   pub composed_lone : (letter mark class : ℕ) → canonical.full mark ≡ mark ∷ [] → canonical.class mark ≡ class → IsSteadyUpTo canonical letter class
       → composed canonical (letter ∷ mark ∷ []) ≡ composing canonical letter [] (mark ∷ [])
   unfolding composed decomposed

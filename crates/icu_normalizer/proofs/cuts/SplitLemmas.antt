@@ -114,7 +114,7 @@ module _ (canonical : Canonical) where
       ∙ order_before canonical.class s (flat_map canonical.full front) (flat_map canonical.full back) starter
       ∙ ap (λ l. marks_in_order canonical.class (flat_map canonical.full front) ++ l) (sym (decomposed_itself canonical s back full starter))
 
-  -- ---- a text that was read to a place
+  -- ---- a text that was read to an index
 
   -- Nothing that was read is out of its place. What was read last is a starter and marks, or marks at the start of the text.
   pub record IsWalked (front back : List ℕ) (before : ℕ) : Type 0 where
@@ -187,7 +187,7 @@ module _ (canonical : Canonical) where
   not_mark : (c : ℕ) → canonical.class c ≡ 0 → is_mark canonical.class c ≡ true → ⊥
   not_mark c zero mark = grind (arith, nat_tests)
 
-  -- no starter stands among the marks behind the last one
+  -- no starter stands among the marks after the last one
   pub starter_before : (front back xs w : List ℕ) (x : ℕ) → canonical.class x ≡ 0 → front ++ back ≡ xs ++ x ∷ w → list_all (is_mark canonical.class) (drop 1 back) ≡ true → length xs ≤ length front
   starter_before front back [] w x zero e marks = omega arith
   starter_before [] back (y ∷ xs) w x zero e marks =

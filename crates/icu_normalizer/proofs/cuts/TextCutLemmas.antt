@@ -1,4 +1,4 @@
--- Texts that were read to a place.
+-- Texts that were read to an index.
 use Rattle.std.proofs.Common.{◌≡◌, ℕ, zero, suc, ◌+◌, ◌-◌, ◌<◌, ◌≤◌, ◌↔◌, ◌⊎◌, inl, inr, Option, None, Some, List, [], ◌∷◌, ◌++◌, length, length-append, take, drop, get_or, refl, sym, ap, ap₂, subst, ◌∙◌, arith, append_assoc, append-nil, ⊎_elim}
 use Rattle.std.proofs.lemmas.Bool.{cases_lt}
 use Rattle.std.proofs.lemmas.List.{append_cancel_left, take_more}
@@ -37,7 +37,7 @@ first_read encode text rest (Some d) c begins is = begins.characters ∙ ap (λ 
 -- ---- what was read, and what is ahead
 
 module _ (encode : List ℕ → List ℕ) where
-  -- the rest comes behind `front`, and what is ahead comes behind `back`, which is the start of the rest
+  -- the rest comes after `front`, and what is ahead comes after `back`, which is the start of the rest
   pub record IsReadTo (text rest ahead : Text) (front back : List ℕ) : Type 0 where
     pub units : text.units ≡ encode front ++ rest.units
     pub characters : text.characters ≡ front ++ rest.characters
@@ -148,7 +148,7 @@ module _ (encode : List ℕ → List ℕ) (is : IsEncoding encode) where
         let spelled = ap (λ l. l ++ more) (is.append seen (x ∷ v)) ∙ append_assoc (encode seen) (encode (x ∷ v)) more in
         bad.never x (encode v ++ more) (subst IsScalar head refl) (append_cancel_left (encode seen) _ _ (sym units ∙ e ∙ spelled) ∙ rest)
 
-    -- a character other than U+FFFD behind undamaged text was seen
+    -- a character other than U+FFFD after undamaged text was seen
     pub damaged_behind : (agreed more left : List ℕ) (c : ℕ) → text.units ≡ encode agreed ++ more → text.characters ≡ agreed ++ c ∷ left → c < 0xFFFD → (w : List ℕ) × (seen ≡ agreed ++ c ∷ w)
     damaged_behind agreed more left c e f low = ⊎_elim
         (λ (past : length agreed < length seen).
@@ -211,7 +211,7 @@ module _ (encode : List ℕ → List ℕ) (is : IsEncoding encode) where
     empty = subst (λ (u : List ℕ). (u ≡ []) ↔ IsOwnText encode form text) (sym bu) cut.empty;
   }
 
--- the front of an undamaged text that is its own form, where nothing is behind it
+-- the front of an undamaged text that is its own form, where nothing is after it
 pub own_units : (encode form : List ℕ → List ℕ) (text : Text) (front rest : List ℕ) → IsOwnText encode form text → front ++ rest ≡ text.units → rest ≡ [] → front ≡ encode (form text.characters)
 own_units encode form text front rest own whole none =
     sym (append-nil front) ∙ ap (λ l. front ++ l) (sym none) ∙ whole ∙ sym own.0 ∙ ap encode (sym own.1)

@@ -74,7 +74,7 @@ module _ (canonical : Canonical) (ok : IsForming canonical) where
       let first = first_of (canonical.full c) (ok.nonempty c (low_scalar c (omega arith))) in
       (first.0, first.1, first.2, ok.begins c first.0 first.1 low first.2)
 
-  -- behind a front that is its own composed list, and before a character below U+0300, a text is composed anew
+  -- after a front that is its own composed list, and before a character below U+0300, a text is composed anew
   pub composed_behind : (front : List ℕ) (c : ℕ) (back rest : List ℕ) → AreScalar front → c < 0x300 → composed canonical (front ++ c ∷ back) ≡ front ++ rest → rest ≡ composed canonical (c ∷ back)
   unfolding composed decomposed marks_in_order
   composed_behind front c back rest s low e =

@@ -8,6 +8,7 @@ use Rattle.std.proofs.lemmas.Str.{chars-encodes, scalars-chars}
 use lib.Utf8.{scalar, scalars}
 use Rattle.icu_normalizer_core.specs.Canonical.{Canonical, IsCanonical, IsDecomposing, decomposed, composed}
 use Rattle.icu_normalizer_core.proofs.decomposed_lists.DecomposedLemmas.{AreScalar, decomposed_all_scalars}
+use Rattle.icu_normalizer_core.proofs.decomposed_lists.ScalarLemmas.{scalars_are}
 use Rattle.icu_normalizer.specs.Equivalence.{IsEquivalent}
 use Rattle.icu_normalizer.specs.FormCuts.{IsComposed}
 use Rattle.icu_normalizer.specs.Splits.{IsDecomposed}
@@ -20,10 +21,6 @@ use Rattle.icu_normalizer.proofs.equivalence.NormalFormLemmas.{composed_scalars,
 are_scalars : (cs : List ℕ) → scalars cs ≡ true → AreScalar cs
 are_scalars [] h = tt
 are_scalars (c ∷ cs) h = let both = and_parts (scalar c) (scalars cs) h in (both.0, are_scalars cs both.1)
-
-scalars_are : (cs : List ℕ) → AreScalar cs → scalars cs ≡ true
-scalars_are [] h = refl
-scalars_are (c ∷ cs) h = ap (λ b. b && scalars cs) h.0 ∙ scalars_are cs h.1
 
 -- the characters of a text are scalar values
 pub text_scalars : (text : List ℕ) → IsUtf8 text → All IsScalar (chars text)

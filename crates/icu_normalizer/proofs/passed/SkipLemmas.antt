@@ -97,7 +97,7 @@ module _ (canonical : Canonical) (ok : IsForming canonical) where
 
 -- ---- passing over
 
--- A text that was passed over to a place: `back` is the last character that was read.
+-- A text that was passed over to an index: `back` is the last character that was read.
 pub record IsSkipping (encode : List ℕ → List ℕ) (canonical : Canonical) (text rest ahead : Text) : Type 0 where
   pub front : List ℕ
   pub back : List ℕ

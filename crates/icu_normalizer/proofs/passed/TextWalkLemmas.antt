@@ -9,7 +9,7 @@ use Rattle.icu_normalizer.proofs.cuts.CutLemmas.{decomposed_nothing, plain_low}
 use Rattle.icu_normalizer.proofs.cuts.SplitLemmas.{IsWalked, in_place_is_decomposed, starter_before, walked_alone, walked_changes, walked_far, walked_low, walked_mark, walked_none, walked_starter}
 use Rattle.icu_normalizer.proofs.cuts.TextCutLemmas.{IsPastPlain, IsReadTo, all_characters, all_units, cut_at_end, cut_before, damaged_behind, damaged_changes, read_behind, read_first}
 
--- what is known of a text that was read to a place
+-- what is known of a text that was read to an index
 abbrev pub IsWalkedTo : (List ℕ → List ℕ) → Canonical → Text → Text → Text → ℕ → Type 0
 IsWalkedTo encode canonical text rest ahead before = (front : List ℕ) × (back : List ℕ) × IsWalked canonical front back before × IsReadTo encode text rest ahead front back
 

@@ -33,7 +33,7 @@ module _ (class : ℕ → ℕ) where
       let parts = and_parts ((class x == 0) || not (ltb (class x) before)) (stands_to class (class x) middle xs) h in
       and_from _ _ parts.0 (stands_join (class x) middle last xs ys parts.1 g)
 
-  -- both parts stand, the second behind a character of class `middle`
+  -- both parts stand, the second after a character of class `middle`
   pub record AreStanding (before last : ℕ) (xs ys : List ℕ) : Type 0 where
     pub middle : ℕ
     pub front : stands_to class before middle xs ≡ true
@@ -63,7 +63,7 @@ module _ (class : ℕ → ℕ) where
       let next = and_parts ((class y == 0) || not (ltb (class y) (class x))) (stands_to class (class y) last xs) parts.1 in
       ap (put_in_order class x) (stands_order (class x) last (y ∷ xs) parts.1) ∙ put_stays class x y xs (from_test (class y) (class x) next.0)
 
-  -- what stands behind a list that ends in a starter is put in order alone
+  -- what stands after a list that ends in a starter is put in order alone
   pub stands_behind : (before : ℕ) (xs ys : List ℕ) → stands_to class before 0 xs ≡ true → marks_in_order class (xs ++ ys) ≡ xs ++ marks_in_order class ys
   unfolding marks_in_order
   stands_behind before [] ys h = refl

@@ -46,7 +46,7 @@ pub none_of : (xs : List ℕ) → (length xs == 0) ≡ true → xs ≡ []
 none_of [] h = refl
 none_of (x ∷ xs) h = let zero : length (x ∷ xs) ≡ 0 = grind (arith, nat_tests) in absurd (omega (arith, zero))
 
--- one mark more behind others
+-- one mark more after others
 pub marks_with : (class : ℕ → ℕ) (xs ys : List ℕ) (c : ℕ) → ys ≡ xs ++ c ∷ [] → list_all (is_mark class) xs ≡ true → 0 < class c → list_all (is_mark class) ys ≡ true
 marks_with class xs ys c e marks mark = rw e (all_pushed class xs c marks (mark_from class (class c) mark))
 
@@ -71,7 +71,7 @@ some_set xs n k a b c lt le =
     sym (take-take (n + k) (n + 3) all (omega arith)) ∙ ap (take (n + k)) (three_set xs n a b c lt)
     ∙ ap (λ m. take (m + k) (take n xs ++ a ∷ b ∷ c ∷ [])) (sym long) ∙ take-append-add (take n xs) (a ∷ b ∷ c ∷ []) k
 
--- what went in stands behind what was held
+-- what went in stands after what was held
 pub list_kept : (old new : Writer) (read : List ℕ) → writer_data new ≡ writer_data old → held new ≡ held old ++ read → KeepsDue old read new
 list_kept old new read same pushed = record {
   at = λ rest.

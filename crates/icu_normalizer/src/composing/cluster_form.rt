@@ -46,8 +46,8 @@ impl<'d> ClusterForm<'d> {
         }
     }
 
-    /// Reads the first cluster of a text: its first character, and those behind it up to the next steady one. The answer
-    /// is what stands behind the cluster.
+    /// Reads the first cluster of a text: its first character, and those after it up to the next steady one. The answer
+    /// is what stands after the cluster.
     pub(super) fn begin<T: Text>(&mut self, basis: FormData<'_>, text: T) -> Result<T, AllocError>
         requires fresh { IsFresh self.old }
         requires data { form_data self.old ≡ form_meaning basis }

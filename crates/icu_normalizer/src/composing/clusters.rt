@@ -7,7 +7,7 @@ ghost use Rattle.icu_normalizer.specs.Composing.{IsComposedApart};
 use crate::text_sources::Text;
 use icu_normalizer_core::decomposition::FormData;
 
-/// The next character of a cluster, and what stands behind it; `None` where the cluster ends, before a steady character
+/// The next character of a cluster, and what stands after it; `None` where the cluster ends, before a steady character
 /// or at the end of the text. What is damaged reads as U+FFFD.
 #[inline]
 pub(super) fn next_of_cluster<T: Text>(basis: FormData<'_>, text: T) -> Option<(char, T)>

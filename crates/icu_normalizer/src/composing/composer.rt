@@ -1,4 +1,4 @@
-//! Composing decomposed characters: the last starter, and the marks behind it that did not compose.
+//! Composing decomposed characters: the last starter, and the marks after it that did not compose.
 
 ghost use Rattle.std.specs.Prelude.{◌≡◌, ℕ, ◌+◌, ◌≤◌, List, [], ◌∷◌, ◌++◌, false, length, None, option_to_list, IfNone, IfOk};
 ghost use Rattle.icu_normalizer_core.specs.FormData.{form_meaning};
@@ -8,7 +8,7 @@ use icu_normalizer_core::decomposition::FormData;
 use smallvec::SmallVec;
 use std::alloc::{AllocError, Global};
 
-/// The last starter of decomposed characters, and the marks behind it that did not compose with it. They leave once
+/// The last starter of decomposed characters, and the marks after it that did not compose with it. They leave once
 /// another starter has taken its place.
 #[derive(Debug)]
 pub(crate) struct Composer<'d> {

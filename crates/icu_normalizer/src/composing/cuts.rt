@@ -18,7 +18,7 @@ use std::alloc::{AllocError, Global};
 
 /// What is found of the first cluster of a text.
 pub(super) enum Found<T> {
-    /// It is undamaged and its own NFC; this stands behind it.
+    /// It is undamaged and its own NFC; this stands after it.
     Own(T),
     /// The text has to be changed from here on, which is the last character below U+0300 at or before the first change.
     Changed(T),

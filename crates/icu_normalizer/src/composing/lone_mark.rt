@@ -16,7 +16,7 @@ use crate::text_sources::{Text, WriteTo};
 use icu_normalizer_core::canonical::Reading;
 use icu_normalizer_core::decomposition::FormData;
 
-/// What composing makes of a character and the mark behind it.
+/// What composing makes of a character and the mark after it.
 #[derive(Clone, Copy, Debug)]
 pub(super) enum LoneMark {
     /// They compose to this character.
@@ -27,7 +27,7 @@ pub(super) enum LoneMark {
     Changed(char, char),
 }
 
-/// What composing makes of the first cluster of a text, and what stands behind it, where the cluster is a steady
+/// What composing makes of the first cluster of a text, and what stands after it, where the cluster is a steady
 /// character and one mark and that is known; `None` says nothing.
 #[inline]
 pub(super) fn lone_mark<T: Text>(
@@ -56,7 +56,7 @@ pub(super) fn lone_mark<T: Text>(
     }
 }
 
-/// The first character of a text and what stands behind it; `None` where there is none, or it is damaged.
+/// The first character of a text and what stands after it; `None` where there is none, or it is damaged.
 #[inline]
 fn undamaged_char<T: Text>(text: T) -> Option<(char, T)>
     ensures begins { IfSome result (λ read. BeginsWith T.encode (T.spelled text) read.0 (T.spelled read.1)) }
@@ -145,7 +145,7 @@ fn has_classes_up_to(basis: FormData<'_>, c: char, class: u8) -> bool
     true
 }
 
-/// What composing makes of a character and a mark of this class behind it, if that is known.
+/// What composing makes of a character and a mark of this class after it, if that is known.
 #[inline]
 fn composed_lone(
     basis: FormData<'_>,
@@ -191,7 +191,7 @@ fn composed_below(basis: FormData<'_>, letter: char, mark: char, class: u8) -> O
     }
 }
 
-/// What composing makes of a character and a mark behind it.
+/// What composing makes of a character and a mark after it.
 #[inline]
 fn composed_pair(basis: FormData<'_>, letter: char, mark: char) -> LoneMark
     requires itself { (form_meaning basis).full mark ≡ mark ∷ [] }

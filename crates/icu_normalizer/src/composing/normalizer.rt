@@ -89,7 +89,7 @@ impl<'d> ComposingNormalizerBorrowed<'d> {
         write_form::<Self, &str, S>(self, alloc, text, sink)
     }
 
-    /// Writes the NFC of the first cluster of a text, and gives what stands behind it.
+    /// Writes the NFC of the first cluster of a text, and gives what stands after it.
     #[inline]
     fn write_first<T: WriteTo<S>, S>(
         &self,

@@ -134,7 +134,7 @@ impl<'d> WriteForm for DecomposingNormalizerBorrowed<'d> {
     }
 }
 
-/// The first character of a text, and what stands behind it. What is damaged reads as U+FFFD.
+/// The first character of a text, and what stands after it. What is damaged reads as U+FFFD.
 #[inline(always)]
 fn read<T: Text>(text: T) -> Option<(char, T)>
     ensures none { IfNone result (IsAtEnd (T.spelled text)) }

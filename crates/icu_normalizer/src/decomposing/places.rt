@@ -8,7 +8,7 @@ ghost use Rattle.icu_normalizer.specs.Splits.{IsInPlace};
 use icu_normalizer_core::canonical::Reading;
 use icu_normalizer_core::decomposition::FormData;
 
-/// The class of a character that is in its place behind one of class `before`: it stands for itself, and if it is a
+/// The class of a character that is in its place after one of class `before`: it stands for itself, and if it is a
 /// mark, then its class is not below `before`. `None` for any other.
 #[inline]
 pub(super) fn class_in_place(basis: FormData<'_>, before: u8, c: char) -> Option<u8>

@@ -16,7 +16,7 @@ use crate::sinks::NormError;
 use crate::text_sources::WriteTo;
 use icu_normalizer_core::canonical::Reading;
 use icu_normalizer_core::decomposition::{FormData, sort_marks};
-use order::{insert_at, last_class, place_of};
+use order::{index_for, insert_at, last_class};
 use smallvec::SmallVec;
 use std::alloc::{AllocError, Global};
 
@@ -27,7 +27,7 @@ const FEW: usize = 64;
 const ROOM: usize = 61;
 
 /// Writes decomposed text. Low characters and marks are held, in order: `few` has the first `count`, of which the last is
-/// of class `last`. Behind 64 come in `more` the marks that follow, as they came, whose order is still open.
+/// of class `last`. After 64 come in `more` the marks that follow, as they came, whose order is still open.
 #[derive(Debug, Drop)]
 pub(super) struct Writer<'d> {
     basis: FormData<'d>,
@@ -86,7 +86,7 @@ impl<'d> Writer<'d> {
         self.write_asked::<T, S>(c, sink)
     }
 
-    /// What is noted of a character whose full list fits: it is in order behind what is held, and there is room.
+    /// What is noted of a character whose full list fits: it is in order after what is held, and there is room.
     #[inline(always)]
     fn fitting(&self, c: char) -> Option<FormNote>
         ensures { IfSome result (λ note. Fits self.now c note) }
@@ -241,7 +241,7 @@ impl<'d> Writer<'d> {
         Ok(())
     }
 
-    /// The same, where there is room: behind the last that is of no higher class.
+    /// The same, where there is room: after the last that is of no higher class.
     fn insert(&mut self, c: char, class: u8)
         requires class { class ≡ (writer_data self.old).class c }
         requires mark { class ≢ 0 }
@@ -249,10 +249,10 @@ impl<'d> Writer<'d> {
         ensures kept { KeepsDue self.old (c ∷ []) self.new }
         ensures same { writer_data self.new ≡ writer_data self.old }
     {
-        let place = place_of(self.basis, &self.few[..self.count], class);
-        let last = last_class(place, self.count, class, self.last);
+        let index = index_for(self.basis, &self.few[..self.count], class);
+        let last = last_class(index, self.count, class, self.last);
         let mut few = self.few;
-        insert_at(&mut few, place, self.count, c);
+        insert_at(&mut few, index, self.count, c);
         self.few = few;
         self.count += 1;
         self.last = last;
@@ -314,7 +314,7 @@ impl<'d> Writer<'d> {
         let mut marks = SmallVec::new(*self.more.allocator());
         marks.extend_from_slice(&self.few[..self.count])?;
         marks.extend_from_slice(&self.more)?;
-        let from = place_of(self.basis, &self.few[..self.count], 0);
+        let from = index_for(self.basis, &self.few[..self.count], 0);
         sort_marks(self.basis, &mut marks, from)?;
         Ok(marks)
     }

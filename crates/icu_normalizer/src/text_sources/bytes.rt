@@ -57,7 +57,7 @@ impl<'t> Text for &'t [u8] {
     }
 }
 
-/// The first character and what stands behind it, where one or two bytes spell it, or three with a lead from E1 to EC
+/// The first character and what stands after it, where one or two bytes spell it, or three with a lead from E1 to EC
 /// (hex). `None` says nothing.
 #[inline(always)]
 fn short_char(bytes: &[u8]) -> Option<(char, &[u8])>
@@ -93,9 +93,9 @@ pub(super) fn plain_bytes(bytes: &[u8]) -> usize
     ensures within { result ≤ length bytes.now }
     ensures plain { (k : ℕ) → k < result → slice_index bytes.now k < 0x80 }
 {
-    for (place, byte) in bytes.iter().enumerate() {
+    for (index, byte) in bytes.iter().enumerate() {
         if *byte >= 0x80 {
-            return place;
+            return index;
         }
     }
     bytes.len()

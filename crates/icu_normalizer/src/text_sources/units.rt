@@ -59,7 +59,7 @@ impl<'t> Text for &'t [u16] {
     }
 }
 
-/// The character of a pair of surrogates that comes first, and what stands behind both. `None` where none does.
+/// The character of a pair of surrogates that comes first, and what stands after both. `None` where none does.
 fn first_pair(units: &[u16]) -> Option<(char, &[u16])>
     ensures { MatchOption result ((high low : ℕ) (more : List ℕ) → units.now ≡ high ∷ low ∷ more → (is_high_surrogate high && is_low_surrogate low) ≡ false) (λ r. (high : ℕ) × (low : ℕ) × (units.now ≡ high ∷ low ∷ r.1.now) × ((is_high_surrogate high && is_low_surrogate low) ≡ true) × (r.0 ≡ surrogate_pair_char high low)) }
 {
@@ -75,9 +75,9 @@ fn plain_units(units: &[u16]) -> usize
     ensures within { result ≤ length units.now }
     ensures plain { (k : ℕ) → k < result → slice_index units.now k < 0x80 }
 {
-    for (place, unit) in units.iter().enumerate() {
+    for (index, unit) in units.iter().enumerate() {
         if *unit >= 0x80 {
-            return place;
+            return index;
         }
     }
     units.len()

@@ -2,7 +2,7 @@
 
 ghost use Rattle.std.specs.Prelude.{◌≡◌, ◌+◌, ◌≤◌, length, option_to_list, take, drop};
 ghost use Rattle.std.specs.Iterator.{YieldsFirst, item_count};
-ghost use Rattle.icu_normalizer.specs.Uts46.{list_place, list_count};
+ghost use Rattle.icu_normalizer.specs.Uts46.{list_index, list_count};
 
 use icu_packed_vector::PackedVec;
 use std::marker::Model;
@@ -40,11 +40,11 @@ impl<'t> MappedList<'t> {
         }
     }
 
-    /// The list that a word names a place of.
+    /// The list that a word names an index of.
     #[inline]
     pub(super) fn listed(items: &'t PackedVec<'t, char>, word: u32) -> MappedList<'t>
-        requires { list_place word + list_count word ≤ length items.now }
-        ensures { result ≡ take (list_count word) (drop (list_place word) items.now) }
+        requires { list_index word + list_count word ≤ length items.now }
+        ensures { result ≡ take (list_count word) (drop (list_index word) items.now) }
     {
         let next = (word >> 13) as usize;
         let end = next + ((word >> 8) & 0x1f) as usize;
@@ -73,8 +73,8 @@ impl Iterator for MappedList<'_> {
         if self.next == self.end {
             return None;
         }
-        let place = self.next;
-        self.next = place + 1;
-        Some(self.items.at(place))
+        let index = self.next;
+        self.next = index + 1;
+        Some(self.items.at(index))
     }
 }

@@ -16,11 +16,11 @@ use Rattle.icu_normalizer_core.proofs.built.BuiltInFacts.{syllable_pair, syllabl
 
 -- where the entry stands that gives what two characters compose to
 pub record IsEntry (pairs : List ℕ) (a b c : ℕ) : Type 0 where
-  pub place : ℕ
-  pub inside : place < length pairs
-  pub first : pair_first (slice_index pairs place) ≡ a
-  pub second : pair_second (slice_index pairs place) ≡ b
-  pub composes : pair_composed (slice_index pairs place) ≡ c
+  pub index : ℕ
+  pub inside : index < length pairs
+  pub first : pair_first (slice_index pairs index) ≡ a
+  pub second : pair_second (slice_index pairs index) ≡ b
+  pub composes : pair_composed (slice_index pairs index) ≡ c
 
 pub listed_entry : (pairs : List ℕ) (a b c : ℕ) → listed_pair pairs a b ≡ Some c → IsEntry pairs a b c
 unfolding listed_pair
@@ -30,7 +30,7 @@ listed_entry (pair ∷ rest) a b c e =
     (λ t.
     let both = and_parts (pair_first pair == a) (pair_second pair == b) t in
     record {
-      place = 0;
+      index = 0;
       inside = omega arith;
       first = eqb-true (pair_first pair) a both.0;
       second = eqb-true (pair_second pair) b both.1;
@@ -39,7 +39,7 @@ listed_entry (pair ∷ rest) a b c e =
     (λ f.
     let later = listed_entry rest a b c (sym (cond-false _ (Some (pair_composed pair)) (listed_pair rest a b) f) ∙ e) in
     record {
-      place = suc later.place;
+      index = suc later.index;
       inside = let within = later.inside in omega arith;
       first = later.first;
       second = later.second;
@@ -78,9 +78,9 @@ module _ (lists : CanonicalLists) (a : IsAccepted lists) where
   good_at : (x y z : ℕ) → IsEntry lists.pairs x y z → IsGoodPair x y z
   good_at x y z e =
       subst (λ (n : ℕ). IsGoodPair x y n) e.composes
-      (subst (λ (n : ℕ). IsGoodPair x n (pair_composed (slice_index lists.pairs e.place))) e.second
-      (subst (λ (n : ℕ). IsGoodPair n (pair_second (slice_index lists.pairs e.place)) (pair_composed (slice_index lists.pairs e.place))) e.first
-      (good_entry e.place e.inside)))
+      (subst (λ (n : ℕ). IsGoodPair x n (pair_composed (slice_index lists.pairs e.index))) e.second
+      (subst (λ (n : ℕ). IsGoodPair n (pair_second (slice_index lists.pairs e.index)) (pair_composed (slice_index lists.pairs e.index))) e.first
+      (good_entry e.index e.inside)))
 
   listed_good : (x y z : ℕ) → (canonical_of lists).pair x y ≡ Some z → syllable_of x y ≡ None → IsGoodPair x y z
   listed_good x y z e none = good_at x y z (listed_entry lists.pairs x y z (sym (pair_listed lists x y none) ∙ e))

@@ -4,7 +4,7 @@ use Rattle.std.specs.Char.{IsScalar}
 use Rattle.std.specs.Option.{unwrap_or, IsSomeAnd}
 use Rattle.icu_codepointtrie.specs.BuiltTries.{IsTrieOf}
 use Rattle.icu_codepointtrie.specs.CodePointMaps.{CodePointMap, mapped}
-use Rattle.icu_codepointtrie.specs.Places.{TrieTables, value_at}
+use Rattle.icu_codepointtrie.specs.Slots.{TrieTables, value_at}
 use Rattle.icu_normalizer_core.specs.declared.canonical.builder.GivenClass.{GivenClass}
 use Rattle.icu_normalizer_core.specs.declared.canonical.builder.GivenMapping.{GivenMapping}
 use Rattle.icu_normalizer_core.specs.declared.canonical.tables.CanonicalTables.{CanonicalTables}

@@ -1,4 +1,4 @@
--- Full lists of compatibility mappings that keep the rules have room among the places that words name.
+-- Full lists of compatibility mappings that keep the rules have room among the indices that words name.
 use Rattle.std.proofs.Common.{◌≡◌, ℕ, ◌-◌, ◌^◌, ◌<◌, ◌≤◌, ◌==◌, ◌&&◌, ◌||◌, ⊎_elim, Bool, true, false, cond, ltb, not, List, [], ◌∷◌, ◌++◌, length, nat_eq, Option, Some, None, refl, sym, ap, ◌∙◌, arith}
 use Rattle.std.specs.Prelude.{sum_by}
 use Rattle.std.specs.List.{All, AllByRecursion, IsDistinct, filter}
@@ -16,7 +16,7 @@ use Rattle.icu_normalizer_core.specs.CanonicalMeaning.{meaning}
 use Rattle.icu_normalizer_core.specs.CharacterWords.{built_in_named}
 use Rattle.icu_normalizer_core.specs.CompatibilityMaps.{AllMaps, IsMappedAtAll, KeepEachRule, all_named, all_steps_of}
 use Rattle.icu_normalizer_core.specs.ListRoom.{HasRoom, is_stated, list_room}
-use Rattle.icu_normalizer_core.specs.ListWords.{places_of}
+use Rattle.icu_normalizer_core.specs.ListWords.{slots_of}
 use Rattle.icu_normalizer_core.specs.SettledMappings.{IsSound, full_room, steps_in}
 use Rattle.icu_normalizer_core.proofs.built.BuiltInFacts.{high_scalar}
 use Rattle.icu_normalizer_core.proofs.builder.AllStepLemmas.{all_second, cases_step, compatible, unbound}
@@ -100,7 +100,7 @@ module _ (canonical_maps : CanonicalMaps) (over : Mappings) (sound : IsSound ove
         let leads : steps c ≡ k.mark ∷ [] = all_second base.step over.given.now c (fixed_unmapped canonical_maps over sound means rules c w.0 s w.1) ∙ fixed_compatibility over.given.now c w.0 w.1 ∙ k.is in
         let none : steps k.mark ≡ [] = both_marks over sound k.mark 8 k.mark_class (omega arith) k.mark_free in
         ap (λ (o : Option (List ℕ)). cond (is_some o) 0 (list_room steps (steps c))) free ∙ ap (list_room steps) leads
-        ∙ ap (λ (xs : List ℕ). cond (ltb 0 (length xs) || false) 8 (places_of (k.mark ∷ []))) none ∙ ap (λ (b : Bool). cond b 0 1) (mark_stated c w.0 w.1 k.mark k.is))
+        ∙ ap (λ (xs : List ℕ). cond (ltb 0 (length xs) || false) 8 (slots_of (k.mark ∷ []))) none ∙ ap (λ (b : Bool). cond b 0 1) (mark_stated c w.0 w.1 k.mark k.is))
         (cases_step (built_in_compatibility_step c)))
         (λ w. ap (λ (o : Option (List ℕ)). cond (is_some o) 0 (list_room steps (steps c))) w.1)
         (cases_step (built_in_step c))
@@ -128,7 +128,7 @@ module _ (canonical_maps : CanonicalMaps) (over : Mappings) (sound : IsSound ove
         by true = omega arith
         by false = omega arith
 
-    -- those that take places are mapped, and take what their mapping says at most
+    -- those that take slots are mapped, and take what their mapping says at most
     taken : (cs : List ℕ) → AreCharacters cs
         → sum_by (full_room steps) cs ≤ sum_by (λ c. list_room (all_steps_of maps) (all_steps_of maps c)) (filter takes cs)
     taken [] all = omega arith
@@ -163,7 +163,7 @@ module _ (canonical_maps : CanonicalMaps) (over : Mappings) (sound : IsSound ove
         by true e later = All-cons (IsMappedAtAll maps) c (filter takes cs) (takes_mapped c (All-head IsScalar c cs all) e) later
         by false e later = later
 
-    -- what is built in takes no places
+    -- what is built in takes no slots
     fixed_room : sum_by (full_room steps) (0xff9e ∷ 0xff9f ∷ built_in_named) ≡ 0
     unfolding built_in_class built_in_step singled_out
     fixed_room =

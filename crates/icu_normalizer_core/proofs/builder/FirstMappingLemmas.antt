@@ -13,7 +13,7 @@ use Rattle.std.proofs.lemmas.List.Folds.{find-append}
 use Rattle.icu_normalizer_core.specs.declared.canonical.builder.GivenCompatibility.{GivenCompatibility}
 use Rattle.icu_normalizer_core.specs.declared.canonical.builder.GivenMapping.{GivenMapping}
 use Rattle.icu_normalizer_core.specs.CompatibilityMaps.{first_given}
-use Rattle.icu_normalizer_core.specs.FirstMappings.{HasFirstCompatibilities, HasFirstMappings, HasFirstPlaces}
+use Rattle.icu_normalizer_core.specs.FirstMappings.{HasFirstCompatibilities, HasFirstMappings, HasFirstIndices}
 use Rattle.icu_normalizer_core.proofs.settling.SettlingLemmas.{none_inside}
 
 -- the first that passes, of one element more
@@ -42,43 +42,43 @@ compatibility_noted given i one d old new h is has noted c =
     ∙ ap (λ (o : Option GivenCompatibility). option_or o (cond (one.now.character == c) (Some one.now) None)) (has c)
     ∙ sym (find_more (λ g. g.character == c) given i one.now d h is)
 
--- ---- Places
+-- ---- Indices
 
--- the map has the place of the first mapping of each character among the first mappings
-abbrev pub HasPlacesTo : List GivenCompatibility → ℕ → BTreeMap ℕ ℕ → Type 0
-HasPlacesTo given count places =
-    (c : ℕ) → MatchOption (get nat_cmp places c) (first_given (take count given) c ≡ None) (λ place. (place < length given) × (first_given (take count given) c ≡ slice_get given place))
+-- the map has the index of the first mapping of each character among the first mappings
+abbrev pub HasIndicesTo : List GivenCompatibility → ℕ → BTreeMap ℕ ℕ → Type 0
+HasIndicesTo given count indices =
+    (c : ℕ) → MatchOption (get nat_cmp indices c) (first_given (take count given) c ≡ None) (λ index. (index < length given) × (first_given (take count given) c ≡ slice_get given index))
 
-pub no_place_noted : (given : List GivenCompatibility) (places : BTreeMap ℕ ℕ) → ((c : ℕ) → get nat_cmp places c ≡ None) → HasPlacesTo given 0 places
-no_place_noted given places none c = subst (λ (o : Option ℕ). MatchOption o (first_given (take 0 given) c ≡ None) (λ place. (place < length given) × (first_given (take 0 given) c ≡ slice_get given place))) (sym (none c)) refl
+pub no_index_noted : (given : List GivenCompatibility) (indices : BTreeMap ℕ ℕ) → ((c : ℕ) → get nat_cmp indices c ≡ None) → HasIndicesTo given 0 indices
+no_index_noted given indices none c = subst (λ (o : Option ℕ). MatchOption o (first_given (take 0 given) c ≡ None) (λ index. (index < length given) × (first_given (take 0 given) c ≡ slice_get given index))) (sym (none c)) refl
 
-pub all_places_noted : (given : List GivenCompatibility) (count : ℕ) (places : BTreeMap ℕ ℕ) → length given ≤ count → HasPlacesTo given count places → HasFirstPlaces given places
-all_places_noted given count places past has = subst (λ (xs : List GivenCompatibility). (c : ℕ) → MatchOption (get nat_cmp places c) (first_given xs c ≡ None) (λ place. (place < length given) × (first_given xs c ≡ slice_get given place))) (take_all count given past) has
+pub all_indices_noted : (given : List GivenCompatibility) (count : ℕ) (indices : BTreeMap ℕ ℕ) → length given ≤ count → HasIndicesTo given count indices → HasFirstIndices given indices
+all_indices_noted given count indices past has = subst (λ (xs : List GivenCompatibility). (c : ℕ) → MatchOption (get nat_cmp indices c) (first_given xs c ≡ None) (λ index. (index < length given) × (first_given xs c ≡ slice_get given index))) (take_all count given past) has
 
 -- the first of a list and one more
-place_or : (given : List GivenCompatibility) (i : ℕ) (one : GivenCompatibility) (b : Bool) (o : Option ℕ) (first : Option GivenCompatibility) → i < length given → slice_get given i ≡ Some one
-    → MatchOption o (first ≡ None) (λ place. (place < length given) × (first ≡ slice_get given place))
-    → MatchOption (option_or o (cond b (Some i) None)) (option_or first (cond b (Some one) None) ≡ None) (λ place. (place < length given) × (option_or first (cond b (Some one) None) ≡ slice_get given place))
-place_or given i one true None first h at none = (h, ap (λ (f : Option GivenCompatibility). option_or f (Some one)) none ∙ sym at)
-place_or given i one false None first h at none = ap (λ (f : Option GivenCompatibility). option_or f None) none
-place_or given i one b (Some place) None h at found = absurd (none_inside given place found.0 (sym found.1))
-place_or given i one b (Some place) (Some first) h at found = found
+index_or : (given : List GivenCompatibility) (i : ℕ) (one : GivenCompatibility) (b : Bool) (o : Option ℕ) (first : Option GivenCompatibility) → i < length given → slice_get given i ≡ Some one
+    → MatchOption o (first ≡ None) (λ index. (index < length given) × (first ≡ slice_get given index))
+    → MatchOption (option_or o (cond b (Some i) None)) (option_or first (cond b (Some one) None) ≡ None) (λ index. (index < length given) × (option_or first (cond b (Some one) None) ≡ slice_get given index))
+index_or given i one true None first h at none = (h, ap (λ (f : Option GivenCompatibility). option_or f (Some one)) none ∙ sym at)
+index_or given i one false None first h at none = ap (λ (f : Option GivenCompatibility). option_or f None) none
+index_or given i one b (Some index) None h at found = absurd (none_inside given index found.0 (sym found.1))
+index_or given i one b (Some index) (Some first) h at found = found
 
-pub place_noted : (given : List GivenCompatibility) (i k : ℕ) (one : GivenCompatibility) (old new : BTreeMap ℕ ℕ) → i < length given → slice_get given i ≡ Some one → one ≡ get_or given i one
-    → k ≡ one.character → HasPlacesTo given i old → ((c : ℕ) → get nat_cmp new c ≡ option_or (get nat_cmp old c) (cond (k == c) (Some i) None)) → HasPlacesTo given (i + 1) new
-place_noted given i k one old new h at is same has noted c =
+pub index_noted : (given : List GivenCompatibility) (i k : ℕ) (one : GivenCompatibility) (old new : BTreeMap ℕ ℕ) → i < length given → slice_get given i ≡ Some one → one ≡ get_or given i one
+    → k ≡ one.character → HasIndicesTo given i old → ((c : ℕ) → get nat_cmp new c ≡ option_or (get nat_cmp old c) (cond (k == c) (Some i) None)) → HasIndicesTo given (i + 1) new
+index_noted given i k one old new h at is same has noted c =
     let more : first_given (take (i + 1) given) c ≡ option_or (first_given (take i given) c) (cond (one.character == c) (Some one) None) = find_more (λ g. g.character == c) given i one one h is in
     let found : get nat_cmp new c ≡ option_or (get nat_cmp old c) (cond (one.character == c) (Some i) None) =
     subst (λ (n : ℕ). get nat_cmp new c ≡ option_or (get nat_cmp old c) (cond (n == c) (Some i) None)) same (noted c) in
-    subst (λ (o : Option ℕ). MatchOption o (first_given (take (i + 1) given) c ≡ None) (λ place. (place < length given) × (first_given (take (i + 1) given) c ≡ slice_get given place))) (sym found)
-    (subst (λ (f : Option GivenCompatibility). MatchOption (option_or (get nat_cmp old c) (cond (one.character == c) (Some i) None)) (f ≡ None) (λ place. (place < length given) × (f ≡ slice_get given place))) (sym more)
-    (place_or given i one (one.character == c) (get nat_cmp old c) (first_given (take i given) c) h at (has c)))
+    subst (λ (o : Option ℕ). MatchOption o (first_given (take (i + 1) given) c ≡ None) (λ index. (index < length given) × (first_given (take (i + 1) given) c ≡ slice_get given index))) (sym found)
+    (subst (λ (f : Option GivenCompatibility). MatchOption (option_or (get nat_cmp old c) (cond (one.character == c) (Some i) None)) (f ≡ None) (λ index. (index < length given) × (f ≡ slice_get given index))) (sym more)
+    (index_or given i one (one.character == c) (get nat_cmp old c) (first_given (take i given) c) h at (has c)))
 
 -- what is looked up in such a map
-pub place_of : (given : List GivenCompatibility) (places : BTreeMap ℕ ℕ) (c : ℕ) (o : Option ℕ) → HasFirstPlaces given places → o ≡ get nat_cmp places c
-    → MatchOption o (first_given given c ≡ None) (λ place. (place < length given) × (first_given given c ≡ slice_get given place))
-place_of given places c o has is =
-    subst (λ (p : Option ℕ). MatchOption p (first_given given c ≡ None) (λ place. (place < length given) × (first_given given c ≡ slice_get given place))) (sym is) (has c)
+pub index_of : (given : List GivenCompatibility) (indices : BTreeMap ℕ ℕ) (c : ℕ) (o : Option ℕ) → HasFirstIndices given indices → o ≡ get nat_cmp indices c
+    → MatchOption o (first_given given c ≡ None) (λ index. (index < length given) × (first_given given c ≡ slice_get given index))
+index_of given indices c o has is =
+    subst (λ (p : Option ℕ). MatchOption p (first_given given c ≡ None) (λ index. (index < length given) × (first_given given c ≡ slice_get given index))) (sym is) (has c)
 
 -- ---- Whether something is so of each element
 

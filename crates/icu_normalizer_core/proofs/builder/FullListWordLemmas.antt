@@ -54,7 +54,7 @@ step_in_scalars steps t c = by (built_in_step c) refl
     by (Some ds) e = subst (All IsScalar) (sym (step_in_built_in steps c ds e)) (built_in_short c ds e).0
     by None e = subst (All IsScalar) (sym (step_in_free steps c e)) (listed_scalars steps c (record { firsts = t.firsts; seconds = t.seconds }))
 
-module _ (steps : List ℕ) (settled : List (Option Left)) (t : AreTriples steps) (free : (place : ℕ) → place < length steps / 3 → IsFree (key_at steps place))
+module _ (steps : List ℕ) (settled : List (Option Left)) (t : AreTriples steps) (free : (index : ℕ) → index < length steps / 3 → IsFree (key_at steps index))
     (starts : AreStarts steps settled) where
   start : (i : ℕ) (left : Left) → i < length settled → slice_get settled i ≡ Some (Some left) → IsStartOf steps (key_at steps i ∷ []) left
   start i left h e = starts.each i left e (free i (let n = starts.count in omega arith))
@@ -78,14 +78,14 @@ module _ (steps : List ℕ) (settled : List (Option Left)) (t : AreTriples steps
   settled_words lists state = record {
     count = state.count ∙ starts.count;
     free = free;
-    each = λ place h.
-        let within : place < length settled = let n = starts.count in omega arith in
-        let w = state.each place within in
-        let s = start place w.0 within w.1 in
+    each = λ index h.
+        let within : index < length settled = let n = starts.count in omega arith in
+        let w = state.each index within in
+        let s = start index w.0 within w.1 in
         let whole : take 9 s.0 ≡ s.0 = take_whole 9 s.0 (let few = w.2 in omega (arith, ap length s.2)) in
-        let states : StatesList [] lists.scalars24.items (slice_index lists.words.items place) (left_items w.0) =
-        subst (λ (xs : List ℕ). StatesList [] xs (slice_index lists.words.items place) (left_items w.0)) (append-nil lists.scalars24.items) (w.3 []) in
-        (s.0, s.1, subst (StatesList [] lists.scalars24.items (slice_index lists.words.items place)) (s.2 ∙ whole) states);
+        let states : StatesList [] lists.scalars24.items (slice_index lists.words.items index) (left_items w.0) =
+        subst (λ (xs : List ℕ). StatesList [] xs (slice_index lists.words.items index) (left_items w.0)) (append-nil lists.scalars24.items) (w.3 []) in
+        (s.0, s.1, subst (StatesList [] lists.scalars24.items (slice_index lists.words.items index)) (s.2 ∙ whole) states);
   }
 
   pub unsettled_end : IsDone steps settled → HasUnsettled settled → HasBadEnd steps

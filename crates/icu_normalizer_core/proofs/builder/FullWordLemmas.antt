@@ -14,7 +14,7 @@ use Rattle.icu_normalizer_core.specs.CanonicalMeaning.{lists_of, meaning}
 use Rattle.icu_normalizer_core.specs.CanonicalWords.{built_in_full, full_of_word}
 use Rattle.icu_normalizer_core.specs.CharacterWords.{IsWordOf}
 use Rattle.icu_normalizer_core.specs.ListRoom.{list_room}
-use Rattle.icu_normalizer_core.specs.ListWords.{KeepsStating, places_of}
+use Rattle.icu_normalizer_core.specs.ListWords.{KeepsStating, slots_of}
 use Rattle.icu_normalizer_core.specs.Settled.{left_items}
 use Rattle.icu_normalizer_core.specs.SettledMappings.{IsSound, KeepsFullWord, StartsLeft, full_room, steps_in}
 use Rattle.icu_normalizer_core.proofs.built.BuiltInFacts.{built_in_left}
@@ -98,12 +98,12 @@ module _ (over : Mappings) (sound : IsSound over) where
       absurd (other (starts.2 ∙ ap (take 9) (left_one steps (c ∷ []) starts.0 (c ∷ []) starts.1 (left_alone steps c none)))))
       (cases_eq (base.class c) 0)
 
-  -- the list takes no more places than its mapping says
+  -- the list takes no more slots than its mapping says
   pub list_fits : (c : ℕ) (left : Left) → IsFree c → StartsLeft steps (c ∷ []) left → length (left_items left) ≤ 8 → left_items left ≢ c ∷ []
-      → places_of (left_items left) ≤ full_room steps c
+      → slots_of (left_items left) ≤ full_room steps c
   list_fits c left free starts few other =
       let leaves = left_whole c left starts few in
-      subst (λ (n : ℕ). places_of (left_items left) ≤ n) (sym (ap (λ (o : Option (List ℕ)). cond (is_some o) 0 (list_room steps (steps c))) free))
+      subst (λ (n : ℕ). slots_of (left_items left) ≤ n) (sym (ap (λ (o : Option (List ℕ)). cond (is_some o) 0 (list_room steps (steps c))) free))
       (room_of_list steps c (left_items left) (λ none. other (left_one steps (c ∷ []) (left_items left) (c ∷ []) leaves (left_alone steps c none))) leaves few)
 
   -- a word that states the list, of a character that is a starter

@@ -6,7 +6,7 @@ use Rattle.std.proofs.lemmas.List.{append-nil}
 use Rattle.std.proofs.lemmas.List.Sums.{sum_by_push}
 use Rattle.icu_codepointtrie.specs.BuiltTries.{IsTrieOf}
 use Rattle.icu_codepointtrie.specs.CodePointMaps.{CodePointMap, IsWritten, mapped}
-use Rattle.icu_codepointtrie.specs.Places.{value_at}
+use Rattle.icu_codepointtrie.specs.Slots.{value_at}
 use Rattle.icu_normalizer_core.specs.declared.compatibility.tables.NfkdTables.{NfkdTables}
 use Rattle.icu_normalizer_core.specs.CanonicalWords.{plain_word}
 use Rattle.icu_normalizer_core.specs.CompatibilityMeaning.{nfkd_lists}

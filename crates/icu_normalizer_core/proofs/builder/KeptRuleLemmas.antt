@@ -36,20 +36,20 @@ kept_classes maps rules (c ∷ cs) = All-cons (λ d. class_with maps.classes d <
 
 module _ (maps : CanonicalMaps) (steps : List ℕ) (t : AreTriples steps)
     (listed : (c : ℕ) → listed_step steps c ≡ cond (is_some (built_in_step c)) [] (given_step maps.mappings c)) (rules : KeepCanonicalRules maps) where
-  key_mapped : (place : ℕ) → place < length steps / 3 → IsMapped maps (key_at steps place)
-  key_mapped place h =
-      let free = keys_free maps.mappings steps t listed place h in
-      let inside : 3 * place + 2 < length steps = let r = t.whole in omega arith in
-      let is = listed_of steps (key_at steps place) place t (inside, refl) in
-      let given = listed (key_at steps place) ∙ ap (λ (o : Option (List ℕ)). cond (is_some o) [] (given_step maps.mappings (key_at steps place))) free in
+  key_mapped : (index : ℕ) → index < length steps / 3 → IsMapped maps (key_at steps index)
+  key_mapped index h =
+      let free = keys_free maps.mappings steps t listed index h in
+      let inside : 3 * index + 2 < length steps = let r = t.whole in omega arith in
+      let is = listed_of steps (key_at steps index) index t (inside, refl) in
+      let given = listed (key_at steps index) ∙ ap (λ (o : Option (List ℕ)). cond (is_some o) [] (given_step maps.mappings (key_at steps index))) free in
       (free, λ none. mapping_some _ _ (sym is ∙ given ∙ none))
 
-  key_scalar : (place : ℕ) → place < length steps / 3 → IsScalar (key_at steps place)
-  key_scalar place h = t.characters place (let r = t.whole in omega arith)
+  key_scalar : (index : ℕ) → index < length steps / 3 → IsScalar (key_at steps index)
+  key_scalar index h = t.characters index (let r = t.whole in omega arith)
 
   -- mapped characters are starters
   pub kept_starters : AreStarters maps.classes steps
-  kept_starters place h = rules.starters (key_at steps place) (key_scalar place h) (key_mapped place h)
+  kept_starters index h = rules.starters (key_at steps index) (key_scalar index h) (key_mapped index h)
 
   -- their steps end, in at most eight characters
   pub kept_ends : HasBadEnd steps → ⊥

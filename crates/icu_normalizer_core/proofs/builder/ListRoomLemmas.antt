@@ -1,4 +1,4 @@
--- How many places full lists take.
+-- How many slots full lists take.
 use Rattle.std.proofs.Common.{◌≡◌, ◌≢◌, ℕ, zero, suc, ◌+◌, ◌*◌, ◌/◌, ◌<◌, ◌≤◌, ⊎_elim, Bool, true, false, cond, ltb, ◌||◌, List, [], ◌∷◌, length, take, slice_get, slice_index_or, nat_eq, Option, Some, None, refl, sym, ap, subst, ◌∙◌, arith}
 use Rattle.std.specs.Prelude.{sum_by}
 use Rattle.std.specs.List.{All, AllByRecursion, IsDistinct, list_any}
@@ -12,7 +12,7 @@ use Rattle.icu_normalizer_core.specs.Canonical.{Leaves, IsFree, mapped, nothing,
 use Rattle.icu_normalizer_core.specs.CanonicalLists.{AreTriples, step_in}
 use Rattle.icu_normalizer_core.specs.CharacterWords.{keys_below}
 use Rattle.icu_normalizer_core.specs.ListRoom.{is_stated, list_room}
-use Rattle.icu_normalizer_core.specs.ListWords.{places_of, settled_places}
+use Rattle.icu_normalizer_core.specs.ListWords.{slots_of, settled_slots}
 use Rattle.icu_normalizer_core.specs.Settled.{AreStarts, key_at, left_items}
 use Rattle.icu_normalizer_core.proofs.accepted.TableMeanings.{step_in_free}
 use Rattle.icu_normalizer_core.proofs.builder.FullListWordLemmas.{take_whole}
@@ -24,8 +24,8 @@ use Rattle.icu_normalizer_core.proofs.settling.TripleLemmas.{keys_rise, listed_o
 
 -- ---- One list
 
-pub places_most : (list : List ℕ) → places_of list ≤ length list
-places_most list = by (is_stated list)
+pub slots_most : (list : List ℕ) → slots_of list ≤ length list
+slots_most list = by (is_stated list)
   where
     by : (b : Bool) → cond b 0 (length list) ≤ length list
     by true = omega arith
@@ -50,15 +50,15 @@ left_of_step step c [] e some none = absurd (some refl)
 left_of_step step c (d ∷ ds) e some none =
     mapped c d ds [] (d ∷ ds) e (subst (λ (xs : List ℕ). Leaves step xs (d ∷ ds)) (sym (append-nil (d ∷ ds))) (left_where_none step (d ∷ ds) none))
 
--- the full list of a mapped character takes no more places than its mapping says
-pub room_of_list : (step : ℕ → List ℕ) (c : ℕ) (list : List ℕ) → step c ≢ [] → Leaves step (c ∷ []) list → length list ≤ 8 → places_of list ≤ list_room step (step c)
+-- the full list of a mapped character takes no more slots than its mapping says
+pub room_of_list : (step : ℕ → List ℕ) (c : ℕ) (list : List ℕ) → step c ≢ [] → Leaves step (c ∷ []) list → length list ≤ 8 → slots_of list ≤ list_room step (step c)
 room_of_list step c list some leaves few = by (list_any (λ d. ltb 0 (length (step d))) (step c)) refl
   where
-    by : (b : Bool) → list_any (λ d. ltb 0 (length (step d))) (step c) ≡ b → places_of list ≤ cond b 8 (places_of (step c))
-    by true e = omega (arith, places_most list, few)
+    by : (b : Bool) → list_any (λ d. ltb 0 (length (step d))) (step c) ≡ b → slots_of list ≤ cond b 8 (slots_of (step c))
+    by true e = omega (arith, slots_most list, few)
     by false e =
         let same : list ≡ step c = left_one step (c ∷ []) list (step c) leaves (left_of_step step c (step c) refl some e) in
-        subst (λ (xs : List ℕ). places_of list ≤ places_of xs) same (omega arith)
+        subst (λ (xs : List ℕ). slots_of list ≤ slots_of xs) same (omega arith)
 
 -- ---- Steps that are alike
 
@@ -69,7 +69,7 @@ alike_any f g (d ∷ ds) same =
     ∙ ap (λ (b : Bool). ltb 0 (length (g d)) || b) (alike_any f g ds (All-tail (λ x. f x ≡ g x) d ds same))
 
 pub room_alike : (f g : ℕ → List ℕ) (ds : List ℕ) → All (λ d. f d ≡ g d) ds → list_room f ds ≡ list_room g ds
-room_alike f g ds same = ap (λ (b : Bool). cond b 8 (places_of ds)) (alike_any f g ds same)
+room_alike f g ds same = ap (λ (b : Bool). cond b 8 (slots_of ds)) (alike_any f g ds same)
 
 -- ---- The full lists of triples
 
@@ -98,54 +98,54 @@ module _ (steps : List ℕ) (t : AreTriples steps) where
   keys_distinct zero h = tt
   keys_distinct (suc n) h = (apart n n (omega arith) (omega (arith, h)), keys_distinct n (omega (arith, h)))
 
-  pub all_keys : (P : ℕ → Type 0) (n : ℕ) → n ≤ length steps / 3 → ((place : ℕ) → place < length steps / 3 → P (key_at steps place)) → All P (keys_below steps n)
+  pub all_keys : (P : ℕ → Type 0) (n : ℕ) → n ≤ length steps / 3 → ((index : ℕ) → index < length steps / 3 → P (key_at steps index)) → All P (keys_below steps n)
   unfolding keys_below
   all_keys P zero h each = All-nil P
   all_keys P (suc n) h each = All-cons P (key_at steps n) (keys_below steps n) (each n (omega (arith, h))) (all_keys P n (omega (arith, h)) each)
 
-  key_mapped : (place : ℕ) → place < length steps / 3 → IsFree (key_at steps place) → step_in steps (key_at steps place) ≢ []
-  key_mapped place h free none =
-      let inside : 3 * place + 2 < length steps = let r = t.whole in omega arith in
-      mapping_some _ _ (sym (listed_of steps (key_at steps place) place t (inside, refl)) ∙ sym (step_in_free steps (key_at steps place) free) ∙ none)
+  key_mapped : (index : ℕ) → index < length steps / 3 → IsFree (key_at steps index) → step_in steps (key_at steps index) ≢ []
+  key_mapped index h free none =
+      let inside : 3 * index + 2 < length steps = let r = t.whole in omega arith in
+      mapping_some _ _ (sym (listed_of steps (key_at steps index) index t (inside, refl)) ∙ sym (step_in_free steps (key_at steps index) free) ∙ none)
 
-  module _ (settled : List (Option Left)) (free : (place : ℕ) → place < length steps / 3 → IsFree (key_at steps place)) (starts : AreStarts steps settled) where
+  module _ (settled : List (Option Left)) (free : (index : ℕ) → index < length steps / 3 → IsFree (key_at steps index)) (starts : AreStarts steps settled) where
     abbrev room : ℕ → ℕ
     room c = list_room (step_in steps) (step_in steps c)
 
-    list_fits : (place : ℕ) (left : Left) → place < length steps / 3 → slice_get settled place ≡ Some (Some left) → settled_places (Some left) ≤ room (key_at steps place)
-    list_fits place left h got = by (ltb 8 (length (left_items left))) refl
+    list_fits : (index : ℕ) (left : Left) → index < length steps / 3 → slice_get settled index ≡ Some (Some left) → settled_slots (Some left) ≤ room (key_at steps index)
+    list_fits index left h got = by (ltb 8 (length (left_items left))) refl
       where
-        by : (b : Bool) → ltb 8 (length (left_items left)) ≡ b → cond b 0 (places_of (left_items left)) ≤ room (key_at steps place)
+        by : (b : Bool) → ltb 8 (length (left_items left)) ≡ b → cond b 0 (slots_of (left_items left)) ≤ room (key_at steps index)
         by true e = omega arith
         by false e =
             let few : length (left_items left) ≤ 8 = at_most (length (left_items left)) e in
-            let s = starts.each place left got (free place h) in
+            let s = starts.each index left got (free index h) in
             let whole : left_items left ≡ s.0 = s.2 ∙ take_whole 9 s.0 (omega (arith, few, ap length s.2)) in
-            room_of_list (step_in steps) (key_at steps place) (left_items left) (key_mapped place h (free place h))
-            (subst (Leaves (step_in steps) (key_at steps place ∷ [])) (sym whole) s.1) few
+            room_of_list (step_in steps) (key_at steps index) (left_items left) (key_mapped index h (free index h))
+            (subst (Leaves (step_in steps) (key_at steps index ∷ [])) (sym whole) s.1) few
 
-    place_fits : (place : ℕ) → place < length steps / 3 → settled_places (slice_index_or settled place None) ≤ room (key_at steps place)
-    place_fits place h =
-        let within : place < length settled = let n = starts.count in omega (arith, h) in
+    index_fits : (index : ℕ) → index < length steps / 3 → settled_slots (slice_index_or settled index None) ≤ room (key_at steps index)
+    index_fits index h =
+        let within : index < length settled = let n = starts.count in omega (arith, h) in
         ⊎_elim
-        (λ none. subst (λ (o : Option Left). settled_places o ≤ room (key_at steps place)) (sym (index_of settled place None None within none)) (omega arith))
+        (λ none. subst (λ (o : Option Left). settled_slots o ≤ room (key_at steps index)) (sym (index_of settled index None None within none)) (omega arith))
         (λ found.
-        subst (λ (o : Option Left). settled_places o ≤ room (key_at steps place)) (sym (index_of settled place None (Some found.0) within found.1)) (list_fits place found.0 h found.1))
-        (got_cases settled place within)
+        subst (λ (o : Option Left). settled_slots o ≤ room (key_at steps index)) (sym (index_of settled index None (Some found.0) within found.1)) (list_fits index found.0 h found.1))
+        (got_cases settled index within)
 
-    places_fit : (n : ℕ) → n ≤ length steps / 3 → sum_by settled_places (take n settled) ≤ sum_by room (keys_below steps n)
+    slots_fit : (n : ℕ) → n ≤ length steps / 3 → sum_by settled_slots (take n settled) ≤ sum_by room (keys_below steps n)
     unfolding keys_below
-    places_fit zero h = omega arith
-    places_fit (suc n) h =
+    slots_fit zero h = omega arith
+    slots_fit (suc n) h =
         let within : n < length settled = let k = starts.count in omega (arith, h) in
-        let more : sum_by settled_places (take (n + 1) settled) ≡ sum_by settled_places (take n settled) + settled_places (slice_index_or settled n None) =
-        sum_by_more settled_places settled n None within in
+        let more : sum_by settled_slots (take (n + 1) settled) ≡ sum_by settled_slots (take n settled) + settled_slots (slice_index_or settled n None) =
+        sum_by_more settled_slots settled n None within in
         let one : suc n ≡ n + 1 = omega arith in
-        let next : sum_by settled_places (take (suc n) settled) ≡ sum_by settled_places (take (n + 1) settled) = ap (λ (k : ℕ). sum_by settled_places (take k settled)) one in
-        omega (arith, next, more, places_fit n (omega (arith, h)), place_fits n (omega (arith, h)), sum_by-cons room (key_at steps n) (keys_below steps n))
+        let next : sum_by settled_slots (take (suc n) settled) ≡ sum_by settled_slots (take (n + 1) settled) = ap (λ (k : ℕ). sum_by settled_slots (take k settled)) one in
+        omega (arith, next, more, slots_fit n (omega (arith, h)), index_fits n (omega (arith, h)), sum_by-cons room (key_at steps n) (keys_below steps n))
 
-    -- lists that take more places than words name
-    pub long_lists : (places : ℕ) → places ≤ sum_by settled_places settled → places ≤ sum_by room (keys_below steps (length steps / 3))
-    long_lists places many =
+    -- lists that take more slots than words name
+    pub long_lists : (indices : ℕ) → indices ≤ sum_by settled_slots settled → indices ≤ sum_by room (keys_below steps (length steps / 3))
+    long_lists indices many =
         let all : take (length steps / 3) settled ≡ settled = take_all (length steps / 3) settled (let n = starts.count in omega arith) in
-        omega (arith, many, places_fit (length steps / 3) (omega arith), ap (λ (xs : List (Option Left)). sum_by settled_places xs) all)
+        omega (arith, many, slots_fit (length steps / 3) (omega arith), ap (λ (xs : List (Option Left)). sum_by settled_slots xs) all)

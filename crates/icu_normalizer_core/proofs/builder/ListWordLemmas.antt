@@ -99,7 +99,7 @@ list_stated s16 old list new word some few room is grown more =
     let lower : word % 2 ^ 16 ≡ length list - 1 = omega arith in
     let offset : list_offset word ≡ length s16 + length old = omega arith in
     let count : length_in_24 word ≡ length list = omega arith in
-    let place : list_offset word - length s16 ≡ length old = omega arith in
+    let index : list_offset word - length s16 ≡ length old = omega arith in
     let on : is_list_word word ≡ true = listed_from word (omega arith) (omega arith) in
     let size : length (new ++ more) ≡ length old + length list + length more =
     ap (λ (t : List ℕ). length (t ++ more)) grown ∙ length-append (old ++ list) more ∙ ap (λ (n : ℕ). n + length more) (length-append old list) in
@@ -108,7 +108,7 @@ list_stated s16 old list new word some few room is grown more =
       states = states_listed word on;
       inside = inside_listed s16 (new ++ more) word on (omega arith) (omega arith);
       full = λ c. full_listed s16 (new ++ more) c word on ∙ listed_in_24 s16 (new ++ more) word (omega arith)
-          ∙ ap (λ (n : ℕ). items_at (new ++ more) n (length_in_24 word)) place ∙ ap (items_at (new ++ more) (length old)) count
+          ∙ ap (λ (n : ℕ). items_at (new ++ more) n (length_in_24 word)) index ∙ ap (items_at (new ++ more) (length old)) count
           ∙ ap (λ (t : List ℕ). items_at (t ++ more) (length old) (length list)) grown ∙ middle old list more;
     }
 

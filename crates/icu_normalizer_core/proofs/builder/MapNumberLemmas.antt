@@ -97,7 +97,7 @@ all_mapping_numbers (g ∷ gs) all =
     one true = All-nil IsMappingNumber
     one false = All-cons IsMappingNumber (mapping_number g) [] (is_mapping_number g (All-head IsOfScalars g gs all)) (All-nil IsMappingNumber)
 
--- ---- The first number of a key, behind the numbers of one mapping
+-- ---- The first number of a key, after the numbers of one mapping
 
 front_one : (divisor key n : ℕ) (f : Bool) (rest : List ℕ)
     → first_of divisor (cond f [] (n ∷ []) ++ rest) key ≡ cond f (first_of divisor rest key) (cond ((n / divisor) == key) (Some n) (first_of divisor rest key))
@@ -221,15 +221,15 @@ mapping_some a b e = ⊎_elim
 
 -- no triple is of a character with a built-in mapping
 pub keys_free : (ms : List GivenMapping) (steps : List ℕ) → AreTriples steps → ((c : ℕ) → listed_step steps c ≡ cond (is_some (built_in_step c)) [] (given_step ms c))
-    → (place : ℕ) → place < length steps / 3 → built_in_step (key_at steps place) ≡ None
-keys_free ms steps t listed place h = by (built_in_step (key_at steps place)) refl
+    → (index : ℕ) → index < length steps / 3 → built_in_step (key_at steps index) ≡ None
+keys_free ms steps t listed index h = by (built_in_step (key_at steps index)) refl
   where
-    by : (o : Option (List ℕ)) → built_in_step (key_at steps place) ≡ o → built_in_step (key_at steps place) ≡ None
+    by : (o : Option (List ℕ)) → built_in_step (key_at steps index) ≡ o → built_in_step (key_at steps index) ≡ None
     by None e = e
     by (Some ds) e =
-        let inside : 3 * place + 2 < length steps = let r = t.whole in omega arith in
-        let is = listed_of steps (key_at steps place) place t (inside, refl) in
-        let none = listed (key_at steps place) ∙ ap (λ (o : Option (List ℕ)). cond (is_some o) [] (given_step ms (key_at steps place))) e in
+        let inside : 3 * index + 2 < length steps = let r = t.whole in omega arith in
+        let is = listed_of steps (key_at steps index) index t (inside, refl) in
+        let none = listed (key_at steps index) ∙ ap (λ (o : Option (List ℕ)). cond (is_some o) [] (given_step ms (key_at steps index))) e in
         absurd (mapping_some _ _ (sym is ∙ none))
 
 -- ---- Composed pairs

@@ -61,11 +61,11 @@ module _ (over : Mappings) (sound : IsSound over) where
   ungiven_left c left none free other e is =
       starts_alone (steps_in over) c left (all_second base.step over.given.now c none ∙ step_given over.given.now c free other ∙ given_is over.given.now c None e) is
 
-  pub found_left : (settled : List (Option Left)) (c place : ℕ) (o : Option Left) → AreMappingStarts (steps_in over) over.given.now settled → base.step c ≡ []
-      → IsFree c → built_in_compatibility_step c ≡ None → place < length over.given.now → first_given over.given.now c ≡ slice_get over.given.now place
-      → slice_get settled place ≡ Some o → MatchOption o (IsOpenMapping over.given.now settled c) (StartsLeft (steps_in over) (c ∷ []))
-  found_left settled c place o starts none free other inside first here =
-      mapping_found base.step over.given.now sound.given settled c place o starts none free other inside first here
+  pub found_left : (settled : List (Option Left)) (c index : ℕ) (o : Option Left) → AreMappingStarts (steps_in over) over.given.now settled → base.step c ≡ []
+      → IsFree c → built_in_compatibility_step c ≡ None → index < length over.given.now → first_given over.given.now c ≡ slice_get over.given.now index
+      → slice_get settled index ≡ Some o → MatchOption o (IsOpenMapping over.given.now settled c) (StartsLeft (steps_in over) (c ∷ []))
+  found_left settled c index o starts none free other inside first here =
+      mapping_found base.step over.given.now sound.given settled c index o starts none free other inside first here
 
   -- ---- The characters of a canonical full list, read from the front
 

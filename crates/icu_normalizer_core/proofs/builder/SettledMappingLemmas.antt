@@ -68,9 +68,9 @@ module _ (canonical : Canonical) (d : IsDecomposing canonical) (given : List Giv
   AnyOpen text = HasOpen canonical.full given settled text
 
   open_mapping : (c : ℕ) → canonical.step c ≡ [] → IsOpenMapping given settled c → AnyOpen (all c)
-  open_mapping c none (free, other, (place, inside, first, unsettled)) =
-      let is : all c ≡ mapping_at given place = all_second canonical.step given c none ∙ step_given given c free other ∙ given_is given c (slice_get given place) first in
-      subst AnyOpen (sym is) (done place (omega arith) unsettled)
+  open_mapping c none (free, other, (index, inside, first, unsettled)) =
+      let is : all c ≡ mapping_at given index = all_second canonical.step given c none ∙ step_given given c free other ∙ given_is given c (slice_get given index) first in
+      subst AnyOpen (sym is) (done index (omega arith) unsettled)
 
   open_further : (c x : ℕ) → IsScalar c → IsAmong (canonical.full c) x → IsOpenMapping given settled x → AnyOpen (all c)
   open_further c x s among is =
@@ -122,29 +122,29 @@ module _ (canonical : Canonical) (d : IsDecomposing canonical) (given : List Giv
 
 -- ---- Steps of the code
 
-pub mapping_is : (given : List GivenCompatibility) (place : ℕ) (g : GivenCompatibility) → slice_get given place ≡ Some g → mapping_at given place ≡ g.mapping.items
-mapping_is given place g e = ap (λ (o : Option GivenCompatibility). elim o [ Some h ↦ h.mapping.items | None ↦ [] ]) e
+pub mapping_is : (given : List GivenCompatibility) (index : ℕ) (g : GivenCompatibility) → slice_get given index ≡ Some g → mapping_at given index ≡ g.mapping.items
+mapping_is given index g e = ap (λ (o : Option GivenCompatibility). elim o [ Some h ↦ h.mapping.items | None ↦ [] ]) e
 
-pub first_dropped : (given : List GivenCompatibility) (place c : ℕ) (g : GivenCompatibility) → slice_get given place ≡ Some g → g.character ≡ c
-    → first_given (drop place given) c ≡ Some g
-first_dropped [] place c g e is = absurd cc
+pub first_dropped : (given : List GivenCompatibility) (index c : ℕ) (g : GivenCompatibility) → slice_get given index ≡ Some g → g.character ≡ c
+    → first_given (drop index given) c ≡ Some g
+first_dropped [] index c g e is = absurd cc
 first_dropped (h ∷ hs) zero c g e is =
     let same : h ≡ g = same_Some h g e in
     cond-true (h.character == c) (Some h) (first_given hs c) (eq-eqb h.character c (ap (λ (x : GivenCompatibility). x.character) same ∙ is)) ∙ e
-first_dropped (h ∷ hs) (suc place) c g e is = first_dropped hs place c g e is
+first_dropped (h ∷ hs) (suc index) c g e is = first_dropped hs index c g e is
 
 -- of a given mapping, settled or not
-pub mapping_found : (step : ℕ → List ℕ) (given : List GivenCompatibility) (chars : All IsOfCharacters given) (settled : List (Option Left)) (c place : ℕ) (o : Option Left)
+pub mapping_found : (step : ℕ → List ℕ) (given : List GivenCompatibility) (chars : All IsOfCharacters given) (settled : List (Option Left)) (c index : ℕ) (o : Option Left)
     → AreMappingStarts (all_steps step given) given settled → step c ≡ [] → IsFree c → built_in_compatibility_step c ≡ None
-    → place < length given → first_given given c ≡ slice_get given place → slice_get settled place ≡ Some o
+    → index < length given → first_given given c ≡ slice_get given index → slice_get settled index ≡ Some o
     → MatchOption o (IsOpenMapping given settled c) (StartsLeft (all_steps step given) (c ∷ []))
-mapping_found step given chars settled c place None starts none free other inside first here = (free, other, (place, inside, first, here))
-mapping_found step given chars settled c place (Some left) starts none free other inside first here =
-    let is : all_steps step given c ≡ mapping_at given place = all_second step given c none ∙ step_given given c free other ∙ given_is given c (slice_get given place) first in
-    starts_mapped (all_steps step given) c (mapping_at given place) left is (by (slice_get given place) first) (starts.each place left here)
+mapping_found step given chars settled c index None starts none free other inside first here = (free, other, (index, inside, first, here))
+mapping_found step given chars settled c index (Some left) starts none free other inside first here =
+    let is : all_steps step given c ≡ mapping_at given index = all_second step given c none ∙ step_given given c free other ∙ given_is given c (slice_get given index) first in
+    starts_mapped (all_steps step given) c (mapping_at given index) left is (by (slice_get given index) first) (starts.each index left here)
   where
     by : (o : Option GivenCompatibility) → first_given given c ≡ o → 0 < length {A = ℕ} (elim o [ Some g ↦ g.mapping.items | None ↦ [] ])
-    by None e = absurd (none_inside given place inside (sym first ∙ e))
+    by None e = absurd (none_inside given index inside (sym first ∙ e))
     by (Some g) e = (found_all IsOfCharacters (λ h. h.character == c) given g chars e).some
 
 -- one more mapping is settled
@@ -164,16 +164,16 @@ mapping_written step given settled i left h starts s = record {
 }
 
 -- one more mapping is looked at: it was settled, and fewer are open
-pub record HasSettled (full step : ℕ → List ℕ) (given : List GivenCompatibility) (initial settled : List (Option Left)) (more : Bool) (place : ℕ) : Type 0 where
+pub record HasSettled (full step : ℕ → List ℕ) (given : List GivenCompatibility) (initial settled : List (Option Left)) (more : Bool) (index : ℕ) : Type 0 where
   pub starts : AreMappingStarts step given settled
   pub most : open_count settled ≤ open_count initial
   pub progress : more ≡ true → open_count settled < open_count initial
-  pub done : more ≡ false → (i : ℕ) → i < place → slice_get settled i ≡ Some None → HasOpen full given settled (mapping_at given i)
+  pub done : more ≡ false → (i : ℕ) → i < index → slice_get settled i ≡ Some None → HasOpen full given settled (mapping_at given i)
 
-pub settled_more : (full step : ℕ → List ℕ) (given : List GivenCompatibility) (initial old new : List (Option Left)) (more after : Bool) (place : ℕ)
-    → HasSettled full step given initial old more place → AreMappingStarts step given new → open_count new < open_count old → after ≡ true
-    → HasSettled full step given initial new after (place + 1)
-settled_more full step given initial old new more after place p starts fewer is =
+pub settled_more : (full step : ℕ → List ℕ) (given : List GivenCompatibility) (initial old new : List (Option Left)) (more after : Bool) (index : ℕ)
+    → HasSettled full step given initial old more index → AreMappingStarts step given new → open_count new < open_count old → after ≡ true
+    → HasSettled full step given initial new after (index + 1)
+settled_more full step given initial old new more after index p starts fewer is =
     let most = p.most in
     record {
       starts = starts;
@@ -183,10 +183,10 @@ settled_more full step given initial old new more after place p starts fewer is 
     }
 
 -- or it stays as it was, and can't be settled now
-pub settled_none : (full step : ℕ → List ℕ) (given : List GivenCompatibility) (initial old new : List (Option Left)) (more after : Bool) (place : ℕ)
-    → HasSettled full step given initial old more place → AreMappingStarts step given new → new ≡ old
-    → (slice_get new place ≡ Some None → HasOpen full given new (mapping_at given place)) → after ≡ more → HasSettled full step given initial new after (place + 1)
-settled_none full step given initial old new more after place p starts same stuck is =
+pub settled_none : (full step : ℕ → List ℕ) (given : List GivenCompatibility) (initial old new : List (Option Left)) (more after : Bool) (index : ℕ)
+    → HasSettled full step given initial old more index → AreMappingStarts step given new → new ≡ old
+    → (slice_get new index ≡ Some None → HasOpen full given new (mapping_at given index)) → after ≡ more → HasSettled full step given initial new after (index + 1)
+settled_none full step given initial old new more after index p starts same stuck is =
     record {
       starts = starts;
       most = subst (λ (xs : List (Option Left)). open_count xs ≤ open_count initial) (sym same) p.most;
@@ -195,9 +195,9 @@ settled_none full step given initial old new more after place p starts same stuc
           (λ before. subst (λ (xs : List (Option Left)). HasOpen full given xs (mapping_at given i)) (sym same)
           (p.done (sym is ∙ none) i before (subst (λ (xs : List (Option Left)). slice_get xs i ≡ Some None) same e)))
           (λ here.
-          let at : i ≡ place = omega arith in
+          let at : i ≡ index = omega arith in
           subst (λ (k : ℕ). HasOpen full given new (mapping_at given k)) (sym at) (stuck (subst (λ (k : ℕ). slice_get new k ≡ Some None) at e)))
-          (cases_lt i place);
+          (cases_lt i index);
     }
 
 -- mappings of which none is settled

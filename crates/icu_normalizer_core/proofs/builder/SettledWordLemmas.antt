@@ -5,7 +5,7 @@ use Rattle.std.specs.Prelude.{cond, ltb, sum_by}
 use Rattle.std.proofs.lemmas.Bool.{cases_lt, cond-false, le-ltb}
 use Rattle.std.proofs.lemmas.List.Sums.{sum_by_more}
 use Rattle.icu_normalizer_core.specs.declared.canonical.check.left.Left.{Left}
-use Rattle.icu_normalizer_core.specs.ListWords.{KeepsStating, StateSettled, StatesSettled, places_of, settled_places}
+use Rattle.icu_normalizer_core.specs.ListWords.{KeepsStating, StateSettled, StatesSettled, slots_of, settled_slots}
 use Rattle.icu_normalizer_core.specs.Settled.{left_items}
 use Rattle.icu_normalizer_core.proofs.builder.InOrderLemmas.{index_before, index_last}
 use Rattle.icu_normalizer_core.proofs.builder.ListWordLemmas.{keeps_stating}
@@ -31,8 +31,8 @@ over_eight found left is h other e =
     let same : Some (Some left) ≡ Some (Some other) = sym is ∙ e in
     subst (λ (l : Left). 8 < length (left_items l)) (ap (λ (o : Option (Option Left)). unwrap_or (unwrap_or o None) left) same) h
 
-few_places : (list : List ℕ) → length list ≤ 8 → cond (ltb 8 (length list)) 0 (places_of list) ≡ places_of list
-few_places list few = cond-false (ltb 8 (length list)) 0 (places_of list) (le-ltb 8 (length list) few)
+few_slots : (list : List ℕ) → length list ≤ 8 → cond (ltb 8 (length list)) 0 (slots_of list) ≡ slots_of list
+few_slots list few = cond-false (ltb 8 (length list)) 0 (slots_of list) (le-ltb 8 (length list) few)
 
 index_here : (xs : List (Option Left)) (i : ℕ) (d x : Option Left) → slice_get xs i ≡ Some x → (i < length xs) × (slice_index_or xs i d ≡ x)
 index_here [] i d x e = absurd cc
@@ -40,22 +40,22 @@ index_here (y ∷ xs) zero d x e = (omega arith, let same : y ≡ x = cc in same
 index_here (y ∷ xs) (suc i) d x e = let later = index_here xs i d x e in (omega (arith, later.0), later.1)
 
 -- one settled list more takes its places
-places_more : (settled : List (Option Left)) (i : ℕ) (left : Left) → slice_get settled i ≡ Some (Some left) → length (left_items left) ≤ 8
-    → sum_by settled_places (take (i + 1) settled) ≡ sum_by settled_places (take i settled) + places_of (left_items left)
-places_more settled i left found few =
+slots_more : (settled : List (Option Left)) (i : ℕ) (left : Left) → slice_get settled i ≡ Some (Some left) → length (left_items left) ≤ 8
+    → sum_by settled_slots (take (i + 1) settled) ≡ sum_by settled_slots (take i settled) + slots_of (left_items left)
+slots_more settled i left found few =
     let at = index_here settled i None (Some left) found in
-    sum_by_more settled_places settled i None at.0
-    ∙ ap (λ (n : ℕ). sum_by settled_places (take i settled) + n) (ap settled_places at.1 ∙ few_places (left_items left) few)
+    sum_by_more settled_slots settled i None at.0
+    ∙ ap (λ (n : ℕ). sum_by settled_slots (take i settled) + n) (ap settled_slots at.1 ∙ few_slots (left_items left) few)
 
 pub more_settled : (s24 new : List ℕ) (settled : List (Option Left)) (words after : List ℕ) (i word : ℕ) (left : Left)
     → StateSettled s24 settled words i → slice_get settled i ≡ Some (Some left) → length (left_items left) ≤ 8
-    → (more : List ℕ) × (new ≡ s24 ++ more) × (length more ≤ places_of (left_items left)) → KeepsStating [] new word (left_items left) → after ≡ words ++ word ∷ []
+    → (more : List ℕ) × (new ≡ s24 ++ more) × (length more ≤ slots_of (left_items left)) → KeepsStating [] new word (left_items left) → after ≡ words ++ word ∷ []
     → StateSettled new settled after (i + 1)
 more_settled s24 new settled words after i word left so_far found few grown keeps pushed =
     let here : i ≡ length words = sym so_far.count in
     record {
       count = ap length pushed ∙ length-append words (word ∷ []) ∙ ap (λ (n : ℕ). n + 1) so_far.count;
-      size = omega (arith, so_far.size, ap length grown.1, length-append s24 grown.0, grown.2, places_more settled i left found few);
+      size = omega (arith, so_far.size, ap length grown.1, length-append s24 grown.0, grown.2, slots_more settled i left found few);
       each = λ j h. ⊎_elim
           (λ (lt : j < i).
           let old = so_far.each j lt in

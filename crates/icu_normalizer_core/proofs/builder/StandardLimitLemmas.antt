@@ -15,18 +15,18 @@ use Rattle.icu_normalizer_core.specs.Canonical.{IsFree}
 use Rattle.icu_normalizer_core.specs.CanonicalMaps.{CanonicalMaps, IsMapped, KeepRules, KeepRulesWithin, given_step, mapping_given, named, step_of}
 use Rattle.icu_normalizer_core.specs.CompatibilityMaps.{AllMaps, IsMappedAtAll, KeepAllRules, KeepAllRulesWithin, KeepCompatibilityRulesWithin, all_named, all_steps_of, given_compatibility}
 use Rattle.icu_normalizer_core.specs.ListRoom.{HasRoom, list_room}
-use Rattle.icu_normalizer_core.specs.ListWords.{places_of}
+use Rattle.icu_normalizer_core.specs.ListWords.{slots_of}
 use Rattle.icu_normalizer_core.specs.Named.{narrow_block, wide_block}
 use Rattle.icu_normalizer_core.proofs.builder.AcceptedMapsLimitLemmas.{behind_named, distinct_among, front_named, keys_named}
 use Rattle.icu_normalizer_core.proofs.builder.AcceptedMappingLemmas.{find_true}
 use Rattle.icu_normalizer_core.proofs.builder.AllStepLemmas.{all_first, all_second, cases_list, cases_step, step_given}
-use Rattle.icu_normalizer_core.proofs.builder.ListRoomLemmas.{left_of_step, places_most}
+use Rattle.icu_normalizer_core.proofs.builder.ListRoomLemmas.{left_of_step, slots_most}
 use Rattle.icu_normalizer_core.proofs.builder.MapNumberLemmas.{found_all}
 use Rattle.icu_normalizer_core.proofs.builder.NamedLemmas.{count_image}
 
 -- ---- Room by numbers
 
--- where lists have at most eight places, and mapped characters are named
+-- where lists have at most eight slots, and mapped characters are named
 few_names : (step : ℕ → List ℕ) (IsMapped : ℕ → Type 0) (names : List ℕ) → distinct_count nat_eq names ≤ 150
     → ((c : ℕ) → IsMapped c → is_member nat_eq names c ≡ true) → ((c : ℕ) → IsMapped c → list_room step (step c) ≤ 8) → HasRoom step IsMapped names
 few_names step IsMapped names few there short = record {
@@ -55,9 +55,9 @@ few_names step IsMapped names few there short = record {
 short_room : (step : ℕ → List ℕ) (ds : List ℕ) → (list_any (λ d. ltb 0 (length (step d))) ds ≡ false → length ds ≤ 8) → list_room step ds ≤ 8
 short_room step ds short = by (list_any (λ d. ltb 0 (length (step d))) ds) refl
   where
-    by : (b : Bool) → list_any (λ d. ltb 0 (length (step d))) ds ≡ b → cond b 8 (places_of ds) ≤ 8
+    by : (b : Bool) → list_any (λ d. ltb 0 (length (step d))) ds ≡ b → cond b 8 (slots_of ds) ≤ 8
     by true e = omega arith
-    by false e = omega (arith, places_most ds, short e)
+    by false e = omega (arith, slots_most ds, short e)
 
 -- the key of what is found is among the keys
 found_key : {X : Type 0} (key : X → ℕ) (xs : List X) (c : ℕ) (x : X) → find (λ y. key y == c) xs ≡ Some x → is_member nat_eq (map key xs) c ≡ true

@@ -51,7 +51,7 @@ pub composing_end : (canonical : Canonical) (starter : ℕ) → composing canoni
 unfolding composing
 composing_end canonical starter = refl
 
--- the same of a list from a place on
+-- the same of a list from an index on
 pub joined_at : (canonical : Canonical) (starter z i : ℕ) (rest : List ℕ) → i < length rest → canonical.pair starter (slice_index rest i) ≡ Some z
     → composing canonical starter [] (drop i rest) ≡ composing canonical z [] (drop (i + 1) rest)
 joined_at canonical starter z i rest h e =

@@ -60,28 +60,28 @@ unlisted_pair (pair ∷ rest) a b none =
     cond-false _ _ _ (test_false pair a b (none 0 (omega arith))) ∙ unlisted_pair rest a b (λ i h same. none (suc i) (omega arith) same)
 
 -- the entry of two characters in rising entries
-pub listed_pair_of : (pairs : List ℕ) (a b place : ℕ) → b < 2 ^ 21 → ArePairs pairs → place < length pairs → slice_index pairs place / 2 ^ 21 ≡ key_of a b
-    → listed_pair pairs a b ≡ Some (pair_composed (slice_index pairs place))
-listed_pair_of pairs a b place small p h e =
-    listed_at pairs a b place small h e (λ j lt same. let rises = pairs_rise pairs p j place lt h in omega arith)
+pub listed_pair_of : (pairs : List ℕ) (a b index : ℕ) → b < 2 ^ 21 → ArePairs pairs → index < length pairs → slice_index pairs index / 2 ^ 21 ≡ key_of a b
+    → listed_pair pairs a b ≡ Some (pair_composed (slice_index pairs index))
+listed_pair_of pairs a b index small p h e =
+    listed_at pairs a b index small h e (λ j lt same. let rises = pairs_rise pairs p j index lt h in omega arith)
 
--- the keys before a place are below that of two characters, and those from it on above
-pub unlisted_pair_between : (pairs : List ℕ) (a b place : ℕ) → ArePairs pairs
-    → (0 < place → slice_index pairs (place - 1) / 2 ^ 21 < key_of a b)
-    → (place < length pairs → key_of a b < slice_index pairs place / 2 ^ 21)
-    → place ≤ length pairs
+-- the keys before an index are below that of two characters, and those from it on above
+pub unlisted_pair_between : (pairs : List ℕ) (a b index : ℕ) → ArePairs pairs
+    → (0 < index → slice_index pairs (index - 1) / 2 ^ 21 < key_of a b)
+    → (index < length pairs → key_of a b < slice_index pairs index / 2 ^ 21)
+    → index ≤ length pairs
     → listed_pair pairs a b ≡ None
-unlisted_pair_between pairs a b place p below above within =
+unlisted_pair_between pairs a b index p below above within =
     unlisted_pair pairs a b (λ i h same.
     ⊎_elim
     (λ before. let last = below (omega arith) in ⊎_elim
-    (λ lt. let rises = pairs_rise pairs p i (place - 1) lt (omega arith) in omega arith)
-    (λ ge. let at : i ≡ place - 1 = omega arith in
-    let key : slice_index pairs i ≡ slice_index pairs (place - 1) = ap (λ (k : ℕ). slice_index pairs k) at in omega (arith, ap (λ (n : ℕ). n / 2 ^ 21) key))
-    (cases_lt i (place - 1)))
+    (λ lt. let rises = pairs_rise pairs p i (index - 1) lt (omega arith) in omega arith)
+    (λ ge. let at : i ≡ index - 1 = omega arith in
+    let key : slice_index pairs i ≡ slice_index pairs (index - 1) = ap (λ (k : ℕ). slice_index pairs k) at in omega (arith, ap (λ (n : ℕ). n / 2 ^ 21) key))
+    (cases_lt i (index - 1)))
     (λ behind. let first = above (omega arith) in ⊎_elim
-    (λ lt. let rises = pairs_rise pairs p place i lt h in omega arith)
-    (λ ge. let at : i ≡ place = omega arith in
-    let key : slice_index pairs i ≡ slice_index pairs place = ap (λ (k : ℕ). slice_index pairs k) at in omega (arith, ap (λ (n : ℕ). n / 2 ^ 21) key))
-    (cases_lt place i))
-    (cases_lt i place))
+    (λ lt. let rises = pairs_rise pairs p index i lt h in omega arith)
+    (λ ge. let at : i ≡ index = omega arith in
+    let key : slice_index pairs i ≡ slice_index pairs index = ap (λ (k : ℕ). slice_index pairs k) at in omega (arith, ap (λ (n : ℕ). n / 2 ^ 21) key))
+    (cases_lt index i))
+    (cases_lt i index))

@@ -18,7 +18,7 @@ no_second lists d unlisted other a =
     ⊎_elim
     (λ none. pair_listed lists a d none
     ∙ ⊎_elim (λ e. e)
-    (λ some. let entry = listed_entry lists.pairs a d some.0 some.1 in absurd (unlisted entry.place entry.inside entry.second))
+    (λ some. let entry = listed_entry lists.pairs a d some.0 some.1 in absurd (unlisted entry.index entry.inside entry.second))
     (cases_option (listed_pair lists.pairs a d)))
     (λ some. let pair = syllable_pair a d some.0 some.1 in let from = pair.from in let to = pair.to in let past = other from in absurd (omega (arith, to, past)))
     (cases_option (syllable_of a d))

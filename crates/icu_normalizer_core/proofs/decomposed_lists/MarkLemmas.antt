@@ -24,45 +24,45 @@ put_last : (class : ℕ → ℕ) (c : ℕ) → put_in_order class c [] ≡ c ∷
 unfolding put_in_order
 put_last class c = refl
 
--- a mark moved one place to the left, past which the character goes
-pub put_step : (class : ℕ → ℕ) (c : ℕ) (list : List ℕ) (place : ℕ) → place + 1 < length list
-    → is_mark_below (class (get_or list (place + 1) 0)) (class c) ≡ true
-    → take (place + 1) (set list place (get_or list (place + 1) 0)) ++ put_in_order class c (drop ((place + 1) + 1) (set list place (get_or list (place + 1) 0)))
-    ≡ take place list ++ put_in_order class c (drop (place + 1) list)
-put_step class c list place lt h =
-    let d = get_or list (place + 1) 0
-    in let here : place < length list = omega arith
-    in let further : place < (place + 1) + 1 = omega arith
-    in let e = drop-cons list (place + 1) 0 lt
-    in let s = put_after class c d (drop (suc (place + 1)) list) h
-    in rw (take_more_set list place d here, drop-set-lt ((place + 1) + 1) list place d further, e, s, add-one (place + 1))
-    (append_assoc (take place list) (d ∷ []) _)
+-- a mark moved one index to the left, past which the character goes
+pub put_step : (class : ℕ → ℕ) (c : ℕ) (list : List ℕ) (index : ℕ) → index + 1 < length list
+    → is_mark_below (class (get_or list (index + 1) 0)) (class c) ≡ true
+    → take (index + 1) (set list index (get_or list (index + 1) 0)) ++ put_in_order class c (drop ((index + 1) + 1) (set list index (get_or list (index + 1) 0)))
+    ≡ take index list ++ put_in_order class c (drop (index + 1) list)
+put_step class c list index lt h =
+    let d = get_or list (index + 1) 0
+    in let here : index < length list = omega arith
+    in let further : index < (index + 1) + 1 = omega arith
+    in let e = drop-cons list (index + 1) 0 lt
+    in let s = put_after class c d (drop (suc (index + 1)) list) h
+    in rw (take_more_set list index d here, drop-set-lt ((index + 1) + 1) list index d further, e, s, add-one (index + 1))
+    (append_assoc (take index list) (d ∷ []) _)
 
--- the place of the character: at the end
-put_at_end : (class : ℕ → ℕ) (c : ℕ) (list : List ℕ) (place : ℕ) → place < length list → length list ≤ place + 1
-    → set list place c ≡ take place list ++ put_in_order class c (drop (place + 1) list)
-put_at_end class c list place lt le =
-    let e : drop (place + 1) list ≡ [] = drop_of_length-le list le
-    in rw (e, put_last class c, set_split list place c lt, ← add-one place, e) refl
+-- the index of the character: at the end
+put_at_end : (class : ℕ → ℕ) (c : ℕ) (list : List ℕ) (index : ℕ) → index < length list → length list ≤ index + 1
+    → set list index c ≡ take index list ++ put_in_order class c (drop (index + 1) list)
+put_at_end class c list index lt le =
+    let e : drop (index + 1) list ≡ [] = drop_of_length-le list le
+    in rw (e, put_last class c, set_split list index c lt, ← add-one index, e) refl
 
 -- or before one that isn't a mark of a lower class
-put_in_front : (class : ℕ → ℕ) (c : ℕ) (list : List ℕ) (place : ℕ) → place + 1 < length list
-    → is_mark_below (class (get_or list (place + 1) 0)) (class c) ≡ false
-    → set list place c ≡ take place list ++ put_in_order class c (drop (place + 1) list)
-put_in_front class c list place lt f =
-    let here : place < length list = omega arith
-    in let e = drop-cons list (place + 1) 0 lt
-    in rw (set_split list place c here, ← add-one place, e, put_before class c (get_or list (place + 1) 0) (drop (suc (place + 1)) list) f) refl
+put_in_front : (class : ℕ → ℕ) (c : ℕ) (list : List ℕ) (index : ℕ) → index + 1 < length list
+    → is_mark_below (class (get_or list (index + 1) 0)) (class c) ≡ false
+    → set list index c ≡ take index list ++ put_in_order class c (drop (index + 1) list)
+put_in_front class c list index lt f =
+    let here : index < length list = omega arith
+    in let e = drop-cons list (index + 1) 0 lt
+    in rw (set_split list index c here, ← add-one index, e, put_before class c (get_or list (index + 1) 0) (drop (suc (index + 1)) list) f) refl
 
--- the place of the character
-pub put_end : (class : ℕ → ℕ) (c : ℕ) (list : List ℕ) (place : ℕ) → place < length list
-    → (length list ≤ place + 1) ⊎ (is_mark_below (class (get_or list (place + 1) 0)) (class c) ≡ false)
-    → set list place c ≡ take place list ++ put_in_order class c (drop (place + 1) list)
-put_end class c list place lt (inl le) = put_at_end class c list place lt le
-put_end class c list place lt (inr f) =
-    elim (cases_lt (place + 1) (length list)) [
-      | inl more ↦ put_in_front class c list place more f
-      | inr le ↦ put_at_end class c list place lt le
+-- the index of the character
+pub put_end : (class : ℕ → ℕ) (c : ℕ) (list : List ℕ) (index : ℕ) → index < length list
+    → (length list ≤ index + 1) ⊎ (is_mark_below (class (get_or list (index + 1) 0)) (class c) ≡ false)
+    → set list index c ≡ take index list ++ put_in_order class c (drop (index + 1) list)
+put_end class c list index lt (inl le) = put_at_end class c list index lt le
+put_end class c list index lt (inr f) =
+    elim (cases_lt (index + 1) (length list)) [
+      | inl more ↦ put_in_front class c list index more f
+      | inr le ↦ put_at_end class c list index lt le
     ]
 
 -- one more character put in order before those that are
@@ -78,7 +78,7 @@ test_at k l m n r b ek el er eb = rw (← ek, ← el, ← er) eb
 drop_seam : (n : ℕ) (xs ys : List ℕ) → length xs ≡ n → drop n (xs ++ ys) ≡ ys
 drop_seam n xs ys e = rw (← e) (drop-append_seam xs ys)
 
--- a list whose characters from one place on are in order, and then from the place before
+-- a list whose characters from one index on are in order, and then from the index before
 pub marks_more : (class : ℕ → ℕ) (list sorted : List ℕ) (i : ℕ) → i < length list
     → sorted ≡ take (i + 1) list ++ marks_in_order class (drop (i + 1) list)
     → take i sorted ++ put_in_order class (get_or sorted i 0) (drop (i + 1) sorted) ≡ take i list ++ marks_in_order class (drop i list)
@@ -90,7 +90,7 @@ marks_more class list sorted i lt e =
     in let d : drop (i + 1) sorted ≡ marks = rw (e) (drop_seam (i + 1) (take (i + 1) list) marks n)
     in rw (a, g, d, marks_step class list i lt) refl
 
--- the same of a place given by the one after it
+-- the same of an index given by the one after it
 pub marks_previous : (class : ℕ → ℕ) (list sorted : List ℕ) (p q : ℕ) → q + 1 ≡ p → p ≤ length list
     → sorted ≡ take p list ++ marks_in_order class (drop p list)
     → take q sorted ++ put_in_order class (get_or sorted q 0) (drop (q + 1) sorted) ≡ take q list ++ marks_in_order class (drop q list)
@@ -98,7 +98,7 @@ marks_previous class list sorted p q h le e =
     let lt : q < length list = omega arith
     in marks_more class list sorted q lt (rw (h) e)
 
--- at place 0 the whole list is in order
+-- at index 0 the whole list is in order
 pub marks_all : (class : ℕ → ℕ) (list sorted : List ℕ) (p : ℕ) → p ≤ 0 → sorted ≡ take p list ++ marks_in_order class (drop p list)
     → sorted ≡ marks_in_order class list
 marks_all class list sorted p le e =

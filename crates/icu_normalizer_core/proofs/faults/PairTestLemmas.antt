@@ -101,33 +101,33 @@ module _ (lists : CanonicalLists) (pair : ℕ) where
 
 -- one of so many entries is bad and composes to the character
 abbrev pub IsBadBelow : CanonicalLists → ℕ → ℕ → Type 0
-IsBadBelow lists place c = (i : ℕ) × (i < place) × ((pair_composed (slice_index lists.pairs i) ≡ c) × IsBadPair lists (slice_index lists.pairs i))
+IsBadBelow lists index c = (i : ℕ) × (i < index) × ((pair_composed (slice_index lists.pairs i) ≡ c) × IsBadPair lists (slice_index lists.pairs i))
 
 pub bad_begun : (lists : CanonicalLists) → IsLeastIn (IsBadBelow lists 0) None
 bad_begun lists = λ c s w. absurd (let h = w.1 in omega arith)
 
-pub bad_more : (lists : CanonicalLists) (place : ℕ) (found : Option ℕ) → IsScalar (pair_composed (slice_index lists.pairs place))
-    → IsBadPair lists (slice_index lists.pairs place) → IsLeastIn (IsBadBelow lists place) found
-    → IsLeastIn (IsBadBelow lists (place + 1)) (least found (Some (pair_composed (slice_index lists.pairs place))))
-bad_more lists place found s bad before =
-    least_same (λ (c : ℕ). IsBadBelow lists place c ⊎ (c ≡ pair_composed (slice_index lists.pairs place))) (IsBadBelow lists (place + 1))
-    (λ c t o. ⊎_elim (λ w. (w.0, (let h = w.1 in omega arith), w.2)) (λ e. (place, (omega arith), (sym e, bad))) o)
+pub bad_more : (lists : CanonicalLists) (index : ℕ) (found : Option ℕ) → IsScalar (pair_composed (slice_index lists.pairs index))
+    → IsBadPair lists (slice_index lists.pairs index) → IsLeastIn (IsBadBelow lists index) found
+    → IsLeastIn (IsBadBelow lists (index + 1)) (least found (Some (pair_composed (slice_index lists.pairs index))))
+bad_more lists index found s bad before =
+    least_same (λ (c : ℕ). IsBadBelow lists index c ⊎ (c ≡ pair_composed (slice_index lists.pairs index))) (IsBadBelow lists (index + 1))
+    (λ c t o. ⊎_elim (λ w. (w.0, (let h = w.1 in omega arith), w.2)) (λ e. (index, (omega arith), (sym e, bad))) o)
     (λ c t w. ⊎_elim
     (λ lt. inl (w.0, lt, w.2))
-    (λ ge. let at : w.0 ≡ place = let h = w.1 in omega arith in inr (sym w.2.0 ∙ ap (λ (k : ℕ). pair_composed (slice_index lists.pairs k)) at))
-    (cases_lt w.0 place))
-    _ (least_either (IsBadBelow lists place) (λ (c : ℕ). c ≡ pair_composed (slice_index lists.pairs place)) found (Some (pair_composed (slice_index lists.pairs place)))
-    before (least_single (pair_composed (slice_index lists.pairs place)) s))
+    (λ ge. let at : w.0 ≡ index = let h = w.1 in omega arith in inr (sym w.2.0 ∙ ap (λ (k : ℕ). pair_composed (slice_index lists.pairs k)) at))
+    (cases_lt w.0 index))
+    _ (least_either (IsBadBelow lists index) (λ (c : ℕ). c ≡ pair_composed (slice_index lists.pairs index)) found (Some (pair_composed (slice_index lists.pairs index)))
+    before (least_single (pair_composed (slice_index lists.pairs index)) s))
 
-pub bad_none : (lists : CanonicalLists) (place : ℕ) (found : Option ℕ) → (IsBadPair lists (slice_index lists.pairs place) → ⊥)
-    → IsLeastIn (IsBadBelow lists place) found → IsLeastIn (IsBadBelow lists (place + 1)) found
-bad_none lists place found good before =
-    least_same (IsBadBelow lists place) (IsBadBelow lists (place + 1))
+pub bad_none : (lists : CanonicalLists) (index : ℕ) (found : Option ℕ) → (IsBadPair lists (slice_index lists.pairs index) → ⊥)
+    → IsLeastIn (IsBadBelow lists index) found → IsLeastIn (IsBadBelow lists (index + 1)) found
+bad_none lists index found good before =
+    least_same (IsBadBelow lists index) (IsBadBelow lists (index + 1))
     (λ c t w. (w.0, (let h = w.1 in omega arith), w.2))
     (λ c t w. ⊎_elim
     (λ lt. (w.0, lt, w.2))
-    (λ ge. let at : w.0 ≡ place = let h = w.1 in omega arith in absurd (good (subst (λ (k : ℕ). IsBadPair lists (slice_index lists.pairs k)) at w.2.1)))
-    (cases_lt w.0 place))
+    (λ ge. let at : w.0 ≡ index = let h = w.1 in omega arith in absurd (good (subst (λ (k : ℕ). IsBadPair lists (slice_index lists.pairs k)) at w.2.1)))
+    (cases_lt w.0 index))
     found before
 
 -- ---- Characters below U+0300

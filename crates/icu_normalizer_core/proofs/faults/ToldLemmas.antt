@@ -7,7 +7,7 @@ use Rattle.std.proofs.lemmas.Bool.{and_from, and_parts, cases_lt, both_ways, con
 use Rattle.std.proofs.lemmas.Bool.Decides.{nat_tests}
 use Rattle.std.proofs.lemmas.Option.{none-some, same_Some}
 use Rattle.std.specs.Option.{is_some, unwrap_or}
-use Rattle.icu_codepointtrie.specs.Places.{has_cell}
+use Rattle.icu_codepointtrie.specs.Slots.{has_cell}
 use Rattle.icu_codepointtrie.specs.CellRuns.{IsEndOfCells}
 use Rattle.icu_normalizer_core.specs.BuiltIn.{built_in_class, is_syllable, singled_out}
 use Rattle.icu_normalizer_core.specs.Canonical.{IsFree}
@@ -58,22 +58,22 @@ rises_more told n rises below i j lt h =
 
 -- ---- The cursor among triples
 
-cursor_past : (steps : List ℕ) (code place : ℕ) → AreTriples steps → IsCursor steps code place
-    → (3 * place + 2 < length steps → slice_index steps (3 * place) ≢ code) → IsCursor steps (code + 1) place
-cursor_past steps code place t at other = record {
+cursor_past : (steps : List ℕ) (code index : ℕ) → AreTriples steps → IsCursor steps code index
+    → (3 * index + 2 < length steps → slice_index steps (3 * index) ≢ code) → IsCursor steps (code + 1) index
+cursor_past steps code index t at other = record {
   within = at.within;
   below = λ some. let key = at.below some in omega (arith, key);
   above = λ h. let key = at.above h in let whole = t.whole in let ne = other (omega (arith, h, whole)) in omega (arith, key, ne);
 }
 
-cursor_on : (steps : List ℕ) (code place : ℕ) → AreTriples steps → IsCursor steps code place
-    → 3 * place + 2 < length steps → slice_index steps (3 * place) ≡ code → IsCursor steps (code + 1) (place + 1)
-cursor_on steps code place t at inside key = record {
+cursor_on : (steps : List ℕ) (code index : ℕ) → AreTriples steps → IsCursor steps code index
+    → 3 * index + 2 < length steps → slice_index steps (3 * index) ≡ code → IsCursor steps (code + 1) (index + 1)
+cursor_on steps code index t at inside key = record {
   within = omega (arith, inside);
   below = λ some.
-      let same : place + 1 - 1 ≡ place = omega arith in
+      let same : index + 1 - 1 ≡ index = omega arith in
       rw same (omega (arith, key));
-  above = λ h. let up = keys_rise steps t place (place + 1) (omega arith) h in omega (arith, up, key);
+  above = λ h. let up = keys_rise steps t index (index + 1) (omega arith) h in omega (arith, up, key);
 }
 
 -- ---- What is collected of the code points below one
@@ -96,30 +96,30 @@ each_more told code Q before c h =
     (λ ge. let at : c ≡ code = omega arith in inl (subst (λ (d : ℕ). IsIn (told ++ code ∷ []) d) (sym at) (in_last told code)))
     (cases_lt c code)
 
-module _ (lists : CanonicalLists) (told : List ℕ) (code place : ℕ) (so_far : TellsBelow lists told code place) where
-  pub tells_listed : 3 * place + 2 < length lists.steps → slice_index lists.steps (3 * place) ≡ code → TellsBelow lists (told ++ code ∷ []) (code + 1) (place + 1)
+module _ (lists : CanonicalLists) (told : List ℕ) (code index : ℕ) (so_far : TellsBelow lists told code index) where
+  pub tells_listed : 3 * index + 2 < length lists.steps → slice_index lists.steps (3 * index) ≡ code → TellsBelow lists (told ++ code ∷ []) (code + 1) (index + 1)
   tells_listed inside key = record {
     rises = rises_more told code so_far.rises so_far.below;
     below = below_more told code so_far.below;
     words = each_more told code (IsUntold lists) so_far.words;
-    cursor = λ t. cursor_on lists.steps code place t (so_far.cursor t) inside key;
+    cursor = λ t. cursor_on lists.steps code index t (so_far.cursor t) inside key;
     triples = λ t. each_more told code (IsUnlisted lists.steps) (so_far.triples t);
   }
 
-  pub tells_told : (3 * place + 2 < length lists.steps → slice_index lists.steps (3 * place) ≢ code) → TellsBelow lists (told ++ code ∷ []) (code + 1) place
+  pub tells_told : (3 * index + 2 < length lists.steps → slice_index lists.steps (3 * index) ≢ code) → TellsBelow lists (told ++ code ∷ []) (code + 1) index
   tells_told other = record {
     rises = rises_more told code so_far.rises so_far.below;
     below = below_more told code so_far.below;
     words = each_more told code (IsUntold lists) so_far.words;
-    cursor = λ t. cursor_past lists.steps code place t (so_far.cursor t) other;
+    cursor = λ t. cursor_past lists.steps code index t (so_far.cursor t) other;
     triples = λ t. each_more told code (IsUnlisted lists.steps) (so_far.triples t);
   }
 
 -- no triple has its key from the code point to before one further up, and there is nothing to be told of these
-module _ (lists : CanonicalLists) (told : List ℕ) (code place further : ℕ) (so_far : TellsBelow lists told code place) where
+module _ (lists : CanonicalLists) (told : List ℕ) (code index further : ℕ) (so_far : TellsBelow lists told code index) where
   pub tells_further : code ≤ further → AreUntold lists code further
-      → (AreTriples lists.steps → 3 * place < length lists.steps → further ≤ slice_index lists.steps (3 * place))
-      → TellsBelow lists told further place
+      → (AreTriples lists.steps → 3 * index < length lists.steps → further ≤ slice_index lists.steps (3 * index))
+      → TellsBelow lists told further index
   tells_further up untold above = record {
     rises = so_far.rises;
     below = λ i h. let lt = so_far.below i h in omega (arith, lt, up);
@@ -131,7 +131,7 @@ module _ (lists : CanonicalLists) (told : List ℕ) (code place further : ℕ) (
     };
     triples = λ t c h.
         ⊎_elim (λ lt. so_far.triples t c lt)
-        (λ ge. inr (unlisted_between lists.steps c place t
+        (λ ge. inr (unlisted_between lists.steps c index t
         (λ some. let key = (so_far.cursor t).below some in omega (arith, key, ge))
         (λ inside. let key = above t inside in omega (arith, key, h))
         (so_far.cursor t).within))
@@ -139,20 +139,20 @@ module _ (lists : CanonicalLists) (told : List ℕ) (code place further : ℕ) (
   }
 
 -- of triples that rise none has its key from the code point to before one that was passed
-pub key_behind : (lists : CanonicalLists) (told : List ℕ) (code place reached passed : ℕ) → TellsBelow lists told code place
-    → (3 * place + 2 < length lists.steps → slice_index lists.steps (3 * place) ≢ code)
-    → (3 * place + 2 < length lists.steps → code < slice_index lists.steps (3 * place) → reached ≤ slice_index lists.steps (3 * place))
-    → passed ≤ reached → AreTriples lists.steps → 3 * place < length lists.steps → passed ≤ slice_index lists.steps (3 * place)
-key_behind lists told code place reached passed so_far other behind up t h =
+pub key_behind : (lists : CanonicalLists) (told : List ℕ) (code index reached passed : ℕ) → TellsBelow lists told code index
+    → (3 * index + 2 < length lists.steps → slice_index lists.steps (3 * index) ≢ code)
+    → (3 * index + 2 < length lists.steps → code < slice_index lists.steps (3 * index) → reached ≤ slice_index lists.steps (3 * index))
+    → passed ≤ reached → AreTriples lists.steps → 3 * index < length lists.steps → passed ≤ slice_index lists.steps (3 * index)
+key_behind lists told code index reached passed so_far other behind up t h =
     let whole = t.whole in
-    let inside : 3 * place + 2 < length lists.steps = omega arith in
+    let inside : 3 * index + 2 < length lists.steps = omega arith in
     let key = (so_far.cursor t).above h in
     let ne = other inside in
     let further = behind inside (omega (arith, key, ne)) in
     omega (arith, further, up)
 
-pub tells_all : (lists : CanonicalLists) (told : List ℕ) (code place : ℕ) → TellsBelow lists told code place → 0x110000 ≤ code → Tells lists told
-tells_all lists told code place so_far past = record {
+pub tells_all : (lists : CanonicalLists) (told : List ℕ) (code index : ℕ) → TellsBelow lists told code index → 0x110000 ≤ code → Tells lists told
+tells_all lists told code index so_far past = record {
   rises = so_far.rises;
   words = λ c h. so_far.words c (omega (arith, past, h));
   triples = λ t c h. so_far.triples t c (omega (arith, past, h));

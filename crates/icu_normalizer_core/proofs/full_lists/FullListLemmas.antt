@@ -11,7 +11,7 @@ use Rattle.icu_normalizer_core.specs.CanonicalWords.{items_at, list_offset, leng
 use Rattle.icu_normalizer_core.specs.FullLists.{IsPart}
 use Rattle.icu_normalizer_core.proofs.built.BuiltInFacts.{all_singled_out}
 
--- a part begins with the item at its place
+-- a part begins with the item at its index
 pub items_first : (items : List ℕ) (next end : ℕ) → next < end → end ≤ length items
     → items_at items next (end - next) ≡ slice_index items next ∷ items_at items (next + 1) (end - (next + 1))
 items_first items next end h within =
@@ -29,18 +29,18 @@ part_behind items next end part other =
       scalars = All-tail IsScalar (slice_index items next) (items_at items (next + 1) (end - (next + 1))) (subst (All IsScalar) (items_first items next end h part.inside) part.scalars);
     }
 
-first_item : (items : List ℕ) (place count : ℕ) → place < length items → items_at items place (suc count) ≡ slice_index items place ∷ items_at items (place + 1) count
-first_item items place count inside = rw (drop-cons items place 0 inside, add-one) refl
+first_item : (items : List ℕ) (index count : ℕ) → index < length items → items_at items index (suc count) ≡ slice_index items index ∷ items_at items (index + 1) count
+first_item items index count inside = rw (drop-cons items index 0 inside, add-one) refl
 
-pub three_items : (items : List ℕ) (place : ℕ) → place + 3 ≤ length items
-    → items_at items place 3 ≡ slice_index items place ∷ slice_index items (place + 1) ∷ slice_index items (place + 2) ∷ []
-three_items items place inside =
-    let next : place + 1 + 1 ≡ place + 2 = omega arith in
-    let last : items_at items (place + 1 + 1) 1 ≡ slice_index items (place + 2) ∷ [] = rw next (first_item items (place + 2) 0 (omega arith)) in
-    first_item items place 2 (omega arith)
-    ∙ ap (λ (l : List ℕ). slice_index items place ∷ l) (first_item items (place + 1) 1 (omega arith) ∙ ap (λ (l : List ℕ). slice_index items (place + 1) ∷ l) last)
+pub three_items : (items : List ℕ) (index : ℕ) → index + 3 ≤ length items
+    → items_at items index 3 ≡ slice_index items index ∷ slice_index items (index + 1) ∷ slice_index items (index + 2) ∷ []
+three_items items index inside =
+    let next : index + 1 + 1 ≡ index + 2 = omega arith in
+    let last : items_at items (index + 1 + 1) 1 ≡ slice_index items (index + 2) ∷ [] = rw next (first_item items (index + 2) 0 (omega arith)) in
+    first_item items index 2 (omega arith)
+    ∙ ap (λ (l : List ℕ). slice_index items index ∷ l) (first_item items (index + 1) 1 (omega arith) ∙ ap (λ (l : List ℕ). slice_index items (index + 1) ∷ l) last)
 
--- the list of a word, in either place
+-- the list of a word, in either index
 pub listed_in_16 : (s16 s24 : List ℕ) (word : ℕ) → list_offset word < length s16
     → list_at s16 s24 word ≡ items_at s16 (list_offset word) (length_in_16 word)
 unfolding list_at
@@ -51,7 +51,7 @@ pub listed_in_24 : (s16 s24 : List ℕ) (word : ℕ) → length s16 ≤ list_off
 unfolding list_at
 listed_in_24 s16 s24 word h = cond-false _ _ _ (le-ltb (list_offset word) (length s16) h)
 
--- the full list of a word that names a place, and of one that doesn't
+-- the full list of a word that names an index, and of one that doesn't
 pub full_listed : (s16 s24 : List ℕ) (c word : ℕ) → is_list_word word ≡ true → full_of_word s16 s24 c word ≡ list_at s16 s24 word
 unfolding full_of_word
 full_listed s16 s24 c word h = cond-true _ _ _ h
@@ -61,8 +61,8 @@ full_listed s16 s24 c word h = cond-true _ _ _ h
 abbrev HasItem : List ℕ → Type 0
 HasItem items = 1 ≤ length items
 
-items_some : (items : List ℕ) (place count : ℕ) → 1 ≤ count → place + count ≤ length items → HasItem (items_at items place count)
-items_some items place count some inside = omega (arith, length-drop place items, length-take count (drop place items))
+items_some : (items : List ℕ) (index count : ℕ) → 1 ≤ count → index + count ≤ length items → HasItem (items_at items index count)
+items_some items index count some inside = omega (arith, length-drop index items, length-take count (drop index items))
 
 listed_some : (s16 s24 : List ℕ) (word : ℕ) → is_list_word word ≡ true → is_inside s16 s24 word ≡ true → HasItem (list_at s16 s24 word)
 unfolding is_inside

@@ -27,39 +27,39 @@ one_visited (true ∷ rest) (suc i) e = one_visited rest i e
 abbrev pub looks_left : List Bool → List ℕ → ℕ
 looks_left visited path = 2 * unvisited_count visited + length path
 
--- a walk: what is settled is right, each triple has its mark, and on the way are places of triples
+-- a walk: what is settled is right, each triple has its mark, and on the way are indices of triples
 pub record IsWalk (steps : List ℕ) (settled : List (Option Left)) (visited : List Bool) (path : List ℕ) : Type 0 where
   pub starts : AreStarts steps settled
   pub marks : length visited ≡ length steps / 3
-  pub places : All (λ place. 3 * place + 2 < length steps) path
+  pub indices : All (λ index. 3 * index + 2 < length steps) path
 
--- a place is left, and what is settled may change
-pub walk_popped : (steps : List ℕ) (old new : List (Option Left)) (visited : List Bool) (path rest : List ℕ) (place : ℕ) → path ≡ rest ++ place ∷ []
-    → IsWalk steps old visited path → AreStarts steps new → (3 * place + 2 < length steps) × IsWalk steps new visited rest
-walk_popped steps old new visited path rest place e w starts =
-    let parts = All-pop (λ (p : ℕ). 3 * p + 2 < length steps) path rest (Some place) e w.places in
-    (parts.1, record { starts = starts; marks = w.marks; places = parts.0 })
+-- an index is left, and what is settled may change
+pub walk_popped : (steps : List ℕ) (old new : List (Option Left)) (visited : List Bool) (path rest : List ℕ) (index : ℕ) → path ≡ rest ++ index ∷ []
+    → IsWalk steps old visited path → AreStarts steps new → (3 * index + 2 < length steps) × IsWalk steps new visited rest
+walk_popped steps old new visited path rest index e w starts =
+    let parts = All-pop (λ (p : ℕ). 3 * p + 2 < length steps) path rest (Some index) e w.indices in
+    (parts.1, record { starts = starts; marks = w.marks; indices = parts.0 })
 
 -- one that isn't visited is put above it
-pub walk_pushed : (steps : List ℕ) (settled : List (Option Left)) (visited : List Bool) (rest : List ℕ) (place needed : ℕ)
-    → IsWalk steps settled visited rest → 3 * place + 2 < length steps → slice_get visited needed ≡ Some false
-    → IsWalk steps settled (set visited needed true) ((rest ++ place ∷ []) ++ needed ∷ [])
-walk_pushed steps settled visited rest place needed w h e =
+pub walk_pushed : (steps : List ℕ) (settled : List (Option Left)) (visited : List Bool) (rest : List ℕ) (index needed : ℕ)
+    → IsWalk steps settled visited rest → 3 * index + 2 < length steps → slice_get visited needed ≡ Some false
+    → IsWalk steps settled (set visited needed true) ((rest ++ index ∷ []) ++ needed ∷ [])
+walk_pushed steps settled visited rest index needed w h e =
     let inside = got_inside visited needed false e in
     let marks = w.marks in
     let there : 3 * needed + 2 < length steps = omega arith in
     record {
       starts = w.starts;
       marks = written_length visited needed true ∙ w.marks;
-      places = All-push (λ (p : ℕ). 3 * p + 2 < length steps) (rest ++ place ∷ []) needed (All-push (λ (p : ℕ). 3 * p + 2 < length steps) rest place w.places h) there;
+      indices = All-push (λ (p : ℕ). 3 * p + 2 < length steps) (rest ++ index ∷ []) needed (All-push (λ (p : ℕ). 3 * p + 2 < length steps) rest index w.indices h) there;
     }
 
 -- and leaves it fewer looks
-pub fewer_pushed : (visited : List Bool) (path rest : List ℕ) (place needed : ℕ) → path ≡ rest ++ place ∷ [] → slice_get visited needed ≡ Some false
-    → looks_left (set visited needed true) ((rest ++ place ∷ []) ++ needed ∷ []) < looks_left visited path
-fewer_pushed visited path rest place needed e unvisited =
-    let n = length-append rest (place ∷ []) in
+pub fewer_pushed : (visited : List Bool) (path rest : List ℕ) (index needed : ℕ) → path ≡ rest ++ index ∷ [] → slice_get visited needed ≡ Some false
+    → looks_left (set visited needed true) ((rest ++ index ∷ []) ++ needed ∷ []) < looks_left visited path
+fewer_pushed visited path rest index needed e unvisited =
+    let n = length-append rest (index ∷ []) in
     let m = ap (λ (xs : List ℕ). length xs) e in
-    let k = length-append (rest ++ place ∷ []) (needed ∷ []) in
+    let k = length-append (rest ++ index ∷ []) (needed ∷ []) in
     let u = one_visited visited needed unvisited in
     omega arith

@@ -154,15 +154,15 @@ pub open_at : (xs : List (Option Left)) (i : ℕ) (x : Option Left) (b : Bool) �
 open_at xs i x b h e is false_is = got_at xs i x h e ∙ ap (λ (o : Option Left). Some o) (not_some x (sym is ∙ false_is))
 
 -- one more triple is looked at: it was settled, and fewer are open
-pub record HasProgress (steps : List ℕ) (initial settled : List (Option Left)) (more : Bool) (place : ℕ) : Type 0 where
+pub record HasProgress (steps : List ℕ) (initial settled : List (Option Left)) (more : Bool) (index : ℕ) : Type 0 where
   pub starts : AreStarts steps settled
   pub most : open_count settled ≤ open_count initial
   pub progress : more ≡ true → open_count settled < open_count initial
-  pub done : more ≡ false → (i : ℕ) → i < place → slice_get settled i ≡ Some None → HasStuck steps settled (mapping_of steps i)
+  pub done : more ≡ false → (i : ℕ) → i < index → slice_get settled i ≡ Some None → HasStuck steps settled (mapping_of steps i)
 
-pub progress_made : (steps : List ℕ) (initial old new : List (Option Left)) (more after : Bool) (place : ℕ) → HasProgress steps initial old more place
-    → AreStarts steps new → open_count new < open_count old → after ≡ true → HasProgress steps initial new after (place + 1)
-progress_made steps initial old new more after place p starts fewer is =
+pub progress_made : (steps : List ℕ) (initial old new : List (Option Left)) (more after : Bool) (index : ℕ) → HasProgress steps initial old more index
+    → AreStarts steps new → open_count new < open_count old → after ≡ true → HasProgress steps initial new after (index + 1)
+progress_made steps initial old new more after index p starts fewer is =
     let most = p.most in
     record {
       starts = starts;
@@ -172,10 +172,10 @@ progress_made steps initial old new more after place p starts fewer is =
     }
 
 -- or it stays as it was, and can't be settled now
-pub progress_none : (steps : List ℕ) (initial old new : List (Option Left)) (more after : Bool) (place : ℕ) → HasProgress steps initial old more place
-    → AreStarts steps new → new ≡ old → (slice_get new place ≡ Some None → HasStuck steps new (mapping_of steps place)) → after ≡ more
-    → HasProgress steps initial new after (place + 1)
-progress_none steps initial old new more after place p starts same stuck is =
+pub progress_none : (steps : List ℕ) (initial old new : List (Option Left)) (more after : Bool) (index : ℕ) → HasProgress steps initial old more index
+    → AreStarts steps new → new ≡ old → (slice_get new index ≡ Some None → HasStuck steps new (mapping_of steps index)) → after ≡ more
+    → HasProgress steps initial new after (index + 1)
+progress_none steps initial old new more after index p starts same stuck is =
     record {
       starts = starts;
       most = subst (λ (xs : List (Option Left)). open_count xs ≤ open_count initial) (sym same) p.most;
@@ -184,9 +184,9 @@ progress_none steps initial old new more after place p starts same stuck is =
           (λ before. subst (λ (xs : List (Option Left)). HasStuck steps xs (mapping_of steps i)) (sym same)
           (p.done (sym is ∙ none) i before (subst (λ (xs : List (Option Left)). slice_get xs i ≡ Some None) same e)))
           (λ here.
-          let at : i ≡ place = omega arith in
+          let at : i ≡ index = omega arith in
           subst (λ (k : ℕ). HasStuck steps new (mapping_of steps k)) (sym at) (stuck (subst (λ (k : ℕ). slice_get new k ≡ Some None) at e)))
-          (cases_lt i place);
+          (cases_lt i index);
     }
 
 -- triples of which none is settled

@@ -24,28 +24,28 @@ keys_rise steps t i j lt h =
     let rises = rises_by steps t i (j - i - 1) far in
     subst (λ (k : ℕ). slice_index steps (3 * i) < slice_index steps (3 * k)) (sym same) rises
 
--- the keys before a place are below the character, and those from it on above
-pub unlisted_between : (steps : List ℕ) (c place : ℕ) → AreTriples steps
-    → (0 < place → slice_index steps (3 * (place - 1)) < c)
-    → (3 * place < length steps → c < slice_index steps (3 * place))
-    → 3 * place ≤ length steps
+-- the keys before an index are below the character, and those from it on above
+pub unlisted_between : (steps : List ℕ) (c index : ℕ) → AreTriples steps
+    → (0 < index → slice_index steps (3 * (index - 1)) < c)
+    → (3 * index < length steps → c < slice_index steps (3 * index))
+    → 3 * index ≤ length steps
     → IsUnlisted steps c
-unlisted_between steps c place t below above within i h same =
+unlisted_between steps c index t below above within i h same =
     ⊎_elim
-    (λ before. let inside : 3 * (place - 1) < length steps = omega arith in ⊎_elim
-    (λ lt. let first = keys_rise steps t i (place - 1) lt inside in let last = below (omega arith) in omega arith)
-    (λ ge. let at : i ≡ place - 1 = omega arith in let last = below (omega arith) in
-    let key : slice_index steps (3 * i) ≡ slice_index steps (3 * (place - 1)) = ap (λ (k : ℕ). slice_index steps (3 * k)) at in omega arith)
-    (cases_lt i (place - 1)))
+    (λ before. let inside : 3 * (index - 1) < length steps = omega arith in ⊎_elim
+    (λ lt. let first = keys_rise steps t i (index - 1) lt inside in let last = below (omega arith) in omega arith)
+    (λ ge. let at : i ≡ index - 1 = omega arith in let last = below (omega arith) in
+    let key : slice_index steps (3 * i) ≡ slice_index steps (3 * (index - 1)) = ap (λ (k : ℕ). slice_index steps (3 * k)) at in omega arith)
+    (cases_lt i (index - 1)))
     (λ behind. ⊎_elim
-    (λ lt. let last = keys_rise steps t place i lt h in let first = above (omega arith) in omega arith)
-    (λ ge. let at : i ≡ place = omega arith in
-    let key : slice_index steps (3 * i) ≡ slice_index steps (3 * place) = ap (λ (k : ℕ). slice_index steps (3 * k)) at in
+    (λ lt. let last = keys_rise steps t index i lt h in let first = above (omega arith) in omega arith)
+    (λ ge. let at : i ≡ index = omega arith in
+    let key : slice_index steps (3 * i) ≡ slice_index steps (3 * index) = ap (λ (k : ℕ). slice_index steps (3 * k)) at in
     let first = above (omega arith) in omega arith)
-    (cases_lt place i))
-    (cases_lt i place)
+    (cases_lt index i))
+    (cases_lt i index)
 
--- ---- A character's mapping, by the place of its triple
+-- ---- A character's mapping, by the index of its triple
 
 pub further : (k a b : ℕ) (rest : List ℕ) (i d : ℕ) → slice_index (k ∷ a ∷ b ∷ rest) (3 * suc i + d) ≡ slice_index rest (3 * i + d)
 further k a b rest i d = let e : 3 * suc i + d ≡ suc (suc (suc (3 * i + d))) = omega arith in rw e refl
@@ -79,11 +79,11 @@ listed_none (k ∷ a ∷ b ∷ rest) c none =
     cond-false (k == c) _ _ (ne_eqb k c other) ∙ listed_none rest c (λ i h same. none (suc i) (omega arith) (further_key k a b rest i ∙ same))
 
 -- the triple of a character in rising triples
-pub listed_of : (steps : List ℕ) (c place : ℕ) → AreTriples steps → IsTripleOf steps c place
-    → listed_step steps c ≡ mapping (slice_index steps (3 * place + 1)) (slice_index steps (3 * place + 2))
-listed_of steps c place t is =
-    listed_at steps c place is.0 is.1
-    (λ j lt same. let rises = keys_rise steps t j place lt (omega arith) in let key = is.1 in omega arith)
+pub listed_of : (steps : List ℕ) (c index : ℕ) → AreTriples steps → IsTripleOf steps c index
+    → listed_step steps c ≡ mapping (slice_index steps (3 * index + 1)) (slice_index steps (3 * index + 2))
+listed_of steps c index t is =
+    listed_at steps c index is.0 is.1
+    (λ j lt same. let rises = keys_rise steps t j index lt (omega arith) in let key = is.1 in omega arith)
 
 -- ---- Triples, one by one
 

@@ -5,7 +5,7 @@ use Rattle.std.proofs.lemmas.Bool.{cases_lt, cases_eq, false≢true}
 use Rattle.std.proofs.lemmas.List.Elements.{Contains-get_or}
 use Rattle.icu_normalizer_core.specs.Canonical.{Reaches, stands}
 use Rattle.icu_normalizer_core.specs.StepVisits.{IsCovered, IsWalkingOn}
-use Rattle.icu_normalizer_core.proofs.steps.StepWalkLemmas.{Notes, noted_here, noted_other, reached_on, place_read}
+use Rattle.icu_normalizer_core.proofs.steps.StepWalkLemmas.{Notes, noted_here, noted_other, reached_on, index_read}
 
 -- The visits once a character is entered: the n below stay, then it is to be left, and what its step gives is to be entered.
 pub record Enters (step : ℕ → List ℕ) (n later : ℕ) (characters next : ℕ → ℕ) (entered flags : ℕ → Bool) (c : ℕ) : Type 0 where
@@ -28,12 +28,12 @@ module _ (step : ℕ → List ℕ) (n later : ℕ) (characters next : ℕ → �
       let count = enters.count in let at = h.1 in
       let within : n + 1 + h.0 < later = omega arith in
       let same : n + 1 + h.0 - (n + 1) ≡ h.0 = omega arith in
-      (n + 1 + h.0, omega arith, within, (enters.above (n + 1 + h.0) (omega arith) within).0 ∙ ap (slice_index (step c)) same ∙ place_read (step c) d h)
+      (n + 1 + h.0, omega arith, within, (enters.above (n + 1 + h.0) (omega arith) within).0 ∙ ap (slice_index (step c)) same ∙ index_read (step c) d h)
 
-  covered_more : (is_left after : ℕ → Option Bool) (place d : ℕ) → place ≤ n → ((q : ℕ) → is_left q ≡ Some true → after q ≡ Some true) → characters n ≡ c
-      → IsCovered is_left (n + 1) characters place d → IsCovered after later next place d
-  covered_more is_left after place d low keeps at (inl e) = inl (keeps d e)
-  covered_more is_left after place d low keeps at (inr (j, from, within, e)) =
+  covered_more : (is_left after : ℕ → Option Bool) (index d : ℕ) → index ≤ n → ((q : ℕ) → is_left q ≡ Some true → after q ≡ Some true) → characters n ≡ c
+      → IsCovered is_left (n + 1) characters index d → IsCovered after later next index d
+  covered_more is_left after index d low keeps at (inl e) = inl (keeps d e)
+  covered_more is_left after index d low keeps at (inr (j, from, within, e)) =
       let count = enters.count in
       ⊎_elim
       (λ (below : j < n). inr (j, from, omega arith, (enters.below j below).0 ∙ e))
@@ -69,7 +69,7 @@ module _ (step : ℕ → List ℕ) (n later : ℕ) (characters next : ℕ → �
         let apart : q ≢ c = λ same. let f = here q same in cc in
         sym (other q apart) ∙ e
 
-    -- at a place below
+    -- at an index below
     low_entered : (i : ℕ) → i < n → flags i ≡ true → entered i ≡ true
     low_entered i h e = sym (enters.below i h).1 ∙ e
 

@@ -6,7 +6,7 @@ use Rattle.std.proofs.lemmas.List.{get_or_append_left, get_or-append_right, get_
 use Rattle.icu_normalizer_core.specs.Canonical.{Reaches}
 use Rattle.icu_normalizer_core.specs.StepVisits.{IsWalkingOn, IsWalking, character_at, entered_at, to_be_entered, work}
 use Rattle.icu_normalizer_core.specs.declared.step_order.Visit.{Visit}
-use Rattle.icu_normalizer_core.proofs.steps.StepWalkLemmas.{Notes, walking_along, pass, leave, closes, place_read}
+use Rattle.icu_normalizer_core.proofs.steps.StepWalkLemmas.{Notes, walking_along, pass, leave, closes, index_read}
 use Rattle.icu_normalizer_core.proofs.steps.StepEnterLemmas.{Enters, enter}
 use Rattle.icu_normalizer_core.proofs.steps.StepWorkLemmas.{work_kept, work_less}
 
@@ -45,7 +45,7 @@ module _ (step : ℕ → List ℕ) (starts : List ℕ) where
         once = λ i j before h entered other same. new j h other;
         owed = λ i h entered. absurd (new i h entered);
         led = λ i j before h entered. absurd (new i (omega arith) entered);
-        begun = λ c h. let within = h.1 in inr (h.0, omega arith, omega arith, (visit_in starts h.0 h.1).0 ∙ place_read starts c h);
+        begun = λ c h. let within = h.1 in inr (h.0, omega arith, omega arith, (visit_in starts h.0 h.1).0 ∙ index_read starts c h);
       }))
 
   module _ (stack below : List Visit) (visit : Visit) (popped : stack ≡ below ++ visit ∷ []) where

@@ -18,16 +18,16 @@ pub reached_on : (step : ℕ → List ℕ) (t : List ℕ) (y x : ℕ) → Reache
 reached_on step t y x (stands s d h) r = steps s d x h r
 reached_on step t y x (steps s d e h q) r = steps s d x h (reached_on step (step d) e x q r)
 
--- no character stands in two places of a list without repeats
-pub one_place : (list : List ℕ) (i j : ℕ) → IsDistinct nat_eq list → i < j → j < length list → slice_index list i ≡ slice_index list j → ⊥
-one_place list i j distinct before within e =
+-- no character stands in two indices of a list without repeats
+pub one_index : (list : List ℕ) (i j : ℕ) → IsDistinct nat_eq list → i < j → j < length list → slice_index list i ≡ slice_index list j → ⊥
+one_index list i j distinct before within e =
     false≢true (sym (apart_from_distinct nat_eq list i j 0 distinct before within) ∙ eq-eqb (slice_index list i) (slice_index list j) e)
 
 -- where an element stands
-pub place_read : (list : List ℕ) (c : ℕ) (h : Contains list c) → slice_index list (h.0) ≡ c
-place_read list c h = sym (get_or_default_zero list h.0 c h.1) ∙ h.2
+pub index_read : (list : List ℕ) (c : ℕ) (h : Contains list c) → slice_index list (h.0) ≡ c
+index_read list c h = sym (get_or_default_zero list h.0 c h.1) ∙ h.2
 
--- one character more behind those in order
+-- one character more after those in order
 pub in_order_push : (step : ℕ → List ℕ) (order : List ℕ) (c : ℕ) → AreInOrder step order → (Contains order c → ⊥)
     → ((d : ℕ) → Contains (step c) d → Contains order d) → AreInOrder step (order ++ c ∷ [])
 in_order_push step order c so_far new behind =
@@ -45,7 +45,7 @@ in_order_push step order c so_far new behind =
           (λ past. let here : k ≡ length order = omega arith in
           let at = behind d (let P : ℕ → Type 0 = λ n. Contains (step n) d in subst P (get_or_push order c 0 k (sym here)) h) in
           let lower = at.1 in
-          (at.0, omega arith, stays at.0 at.1 ∙ place_read order d at))
+          (at.0, omega arith, stays at.0 at.1 ∙ index_read order d at))
           (cases_lt k (length order));
     }
 
@@ -66,23 +66,23 @@ not_neither : (a b : Option Bool) (x : Bool) → a ≡ b → a ≡ Some x → b 
 not_neither a b x e f g = cc
 
 -- a visit less, to a character that is left
-covered_less : (is_left after : ℕ → Option Bool) (n : ℕ) (characters : ℕ → ℕ) (place d : ℕ) → ((q : ℕ) → is_left q ≡ Some true → after q ≡ Some true)
-    → after (characters n) ≡ Some true → IsCovered is_left (n + 1) characters place d → IsCovered after n characters place d
-covered_less is_left after n characters place d keeps top (inl e) = inl (keeps d e)
-covered_less is_left after n characters place d keeps top (inr (j, from, within, e)) =
+covered_less : (is_left after : ℕ → Option Bool) (n : ℕ) (characters : ℕ → ℕ) (index d : ℕ) → ((q : ℕ) → is_left q ≡ Some true → after q ≡ Some true)
+    → after (characters n) ≡ Some true → IsCovered is_left (n + 1) characters index d → IsCovered after n characters index d
+covered_less is_left after n characters index d keeps top (inl e) = inl (keeps d e)
+covered_less is_left after n characters index d keeps top (inr (j, from, within, e)) =
     ⊎_elim
     (λ (below : j < n). inr (j, from, below, e))
     (λ (past : n ≤ j). let same : n ≡ j = omega arith in inl (ap after (sym e) ∙ sym (ap (λ (i : ℕ). after (characters i)) same) ∙ top))
     (cases_lt j n)
 
 module _ (step : ℕ → List ℕ) (starts : List ℕ) where
-  -- other visits at places that aren't reached yet
+  -- other visits at indices that aren't reached yet
   pub walking_along : (order : List ℕ) (is_left : ℕ → Option Bool) (n : ℕ) (characters others : ℕ → ℕ) (entered flags : ℕ → Bool)
       → ((i : ℕ) → i < n → (others i ≡ characters i) × (flags i ≡ entered i))
       → IsWalkingOn step starts order is_left n characters entered → IsWalkingOn step starts order is_left n others flags
   walking_along order is_left n characters others entered flags same w =
-      let covered : (place d : ℕ) → IsCovered is_left n characters place d → IsCovered is_left n others place d =
-      λ place d h. ⊎_elim (λ e. inl e) (λ at. inr (at.0, at.1, at.2, (same at.0 at.2).0 ∙ at.3)) h in
+      let covered : (index d : ℕ) → IsCovered is_left n characters index d → IsCovered is_left n others index d =
+      λ index d h. ⊎_elim (λ e. inl e) (λ at. inr (at.0, at.1, at.2, (same at.0 at.2).0 ∙ at.3)) h in
       record {
         in_order = w.in_order;
         placed = w.placed;
@@ -106,8 +106,8 @@ module _ (step : ℕ → List ℕ) (starts : List ℕ) where
       → IsWalkingOn step starts order is_left (n + 1) characters entered → entered n ≡ false → is_left (characters n) ≡ Some true
       → IsWalkingOn step starts order is_left n characters entered
   pass order is_left n characters entered w new top =
-      let less : (place d : ℕ) → IsCovered is_left (n + 1) characters place d → IsCovered is_left n characters place d =
-      λ place d h. covered_less is_left is_left n characters place d (λ q e. e) top h in
+      let less : (index d : ℕ) → IsCovered is_left (n + 1) characters index d → IsCovered is_left n characters index d =
+      λ index d h. covered_less is_left is_left n characters index d (λ q e. e) top h in
       record {
         in_order = w.in_order;
         placed = w.placed;
@@ -132,8 +132,8 @@ module _ (step : ℕ → List ℕ) (starts : List ℕ) where
       let other : (d : ℕ) → d ≢ c → after d ≡ is_left d = noted_other is_left after c true notes in
       let opened : is_left c ≡ Some false = sym (ap is_left at) ∙ w.opened n (omega arith) is_entered in
       let keeps : (q : ℕ) → is_left q ≡ Some true → after q ≡ Some true = λ q e. ⊎_elim (λ same. here q same) (λ apart. other q apart ∙ e) (cases_eq q c) in
-      let less : (place d : ℕ) → IsCovered is_left (n + 1) characters place d → IsCovered after n characters place d =
-      λ place d h. covered_less is_left after n characters place d keeps (here (characters n) at) h in
+      let less : (index d : ℕ) → IsCovered is_left (n + 1) characters index d → IsCovered after n characters index d =
+      λ index d h. covered_less is_left after n characters index d keeps (here (characters n) at) h in
       let apart : (i : ℕ) → i < n → entered i ≡ true → characters i ≢ c = λ i h e same. w.once i n h (omega arith) e is_entered (same ∙ sym at) in
       record {
         in_order = in_order_push step order c w.in_order (λ h. not_both _ _ refl (w.left c h) opened)

@@ -156,7 +156,7 @@ impl CanonicalDataBuilder {
     }
 
     /// Gives a character its canonical combining class. Of the classes that are given for a character the first counts,
-    /// and the others say nothing. Nothing is refused here but for want of memory, where nothing changes.
+    /// and the others say nothing. Nothing is refused here unless memory is, and then nothing changes.
     pub fn class(&mut self, c: char, class: u8) -> Result<(), AllocError>
         ensures classes { OnOk result (self.new.canonical.classes ≡ self.old.canonical.classes ++ record { character = c; class = class } ∷ []) }
         ensures mappings { self.new.canonical.mappings ≡ self.old.canonical.mappings }
@@ -173,7 +173,7 @@ impl CanonicalDataBuilder {
 
     /// Gives a character its canonical mapping, to one character or to two, and whether the two compose to it; one
     /// alone never does. The same mapping again says nothing new; another one breaks C1, and then nothing is built.
-    /// Nothing is refused here but for want of memory, where nothing changes.
+    /// Nothing is refused here unless memory is, and then nothing changes.
     pub fn map(
         &mut self,
         c: char,
@@ -196,9 +196,9 @@ impl CanonicalDataBuilder {
         Ok(())
     }
 
-    /// Gives a character its compatibility mapping, to `first` and the others behind it (docs/RECORDS.md, `kmap`). The
+    /// Gives a character its compatibility mapping, to `first` and the others after it (docs/RECORDS.md, `kmap`). The
     /// same mapping again says nothing new; another one breaks C1, and then no compatibility tables are built. Nothing is
-    /// refused here but for want of memory, where nothing changes.
+    /// refused here unless memory is, and then nothing changes.
     pub fn kmap(&mut self, c: char, first: char, others: &[char]) -> Result<(), AllocError>
         ensures compatibilities { OnOk result (IsGivenTo self.old.compatibilities c (first ∷ others.now) self.new.compatibilities) }
         ensures canonical { self.new.canonical ≡ self.old.canonical }

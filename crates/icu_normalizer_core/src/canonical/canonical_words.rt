@@ -12,7 +12,7 @@ use icu_packed_vector::PackedVec;
 /// All bits of a word but the two uppermost, which say nothing here.
 pub(crate) const PLAIN_WORD: u32 = 0x3fff_ffff;
 
-/// The words of code points, with the lists that they name places in.
+/// The words of code points, with the lists that they name indices in.
 #[derive(Clone, Copy, Debug)]
 pub(crate) struct Words<'t> {
     /// Each code point's word.
@@ -67,7 +67,7 @@ pub(super) fn is_pair_word(word: u32) -> bool
     word >= 0x1_0000 && word & 0x7fff >= 0x20
 }
 
-/// Whether the word says where the full list stands: from bit 16 on its place and one more, in the lower four bits its
+/// Whether the word says where the full list stands: from bit 16 on its index and one more, in the lower four bits its
 /// length, less two in `scalars16` and less one in `scalars24`.
 #[inline]
 pub(super) fn is_list_word(word: u32) -> bool

@@ -32,7 +32,7 @@ pub(super) fn read_character(tables: &CanonicalTables<'_>, c: char) -> Reading
 }
 
 impl Words<'_> {
-    /// What the character's word tells, with a list of three that it names a place of.
+    /// What the character's word tells, with a list of three that it names an index of.
     #[inline(always)]
     #[tactic(auto, unfolding(crate::specs::CanonicalWords::class_of_word, crate::specs::CanonicalWords::full_of_word))]
     pub(crate) fn reading(self, c: char) -> Reading
@@ -56,7 +56,7 @@ impl Words<'_> {
     }
 }
 
-/// The three characters of the list that a word names a place of, `None` of a list of any other length, and of one in
+/// The three characters of the list that a word names an index of, `None` of a list of any other length, and of one in
 /// `scalars16`.
 #[inline]
 fn three_listed(words: Words<'_>, word: u32) -> Option<(char, char, char)>
@@ -68,12 +68,12 @@ fn three_listed(words: Words<'_>, word: u32) -> Option<(char, char, char)>
     if word % 16 != 2 || offset < in_16 {
         return None;
     }
-    let place = offset - in_16;
-    if words.scalars24.len() < place + 3 {
+    let index = offset - in_16;
+    if words.scalars24.len() < index + 3 {
         return None;
     }
-    let first = words.scalars24.at(place);
-    let second = words.scalars24.at(place + 1);
-    let third = words.scalars24.at(place + 2);
+    let first = words.scalars24.at(index);
+    let second = words.scalars24.at(index + 1);
+    let third = words.scalars24.at(index + 2);
     Some((first, second, third))
 }

@@ -31,7 +31,7 @@ use std::alloc::{AllocError, Global};
 use values::first_bad_value;
 
 /// What the tables are to be refused for, `None` where they pass every check; `told` is a list of the code points of
-/// which they say something (`told::told`). The only error is want of memory.
+/// which they say something (`told::told`). Fails only if memory is refused.
 pub(super) fn first_fault(
     alloc: Global,
     tables: &CanonicalTables<'_>,

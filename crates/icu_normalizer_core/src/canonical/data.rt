@@ -89,8 +89,8 @@ impl<'a> CanonicalData<'a> {
         }
     }
 
-    /// Canonical data of tables that are known to pass every check, and of a list of the code points of which they
-    /// say something. The only error is want of memory.
+    /// Canonical data of tables that are known to pass every check, and of a list of the code points of which they say
+    /// something. Fails only if memory is refused.
     pub(super) fn of_accepted(
         alloc: Global,
         tables: CanonicalTables<'a>,

@@ -49,22 +49,22 @@ impl<'d> Model for FullList<'d> {
     ghost invariant = { λ it. IsPart (source_items it.words it.source) it.next it.end };
 }
 
-/// The character at a place.
+/// The character at an index.
 #[inline]
-fn character_at(words: Words<'_>, source: Source, place: usize) -> char
-    requires inside { place < length (source_items words source) }
-    requires scalar { IsScalar (slice_index (source_items words source) place) }
-    ensures { result ≡ slice_index (source_items words.entry source) place }
+fn character_at(words: Words<'_>, source: Source, index: usize) -> char
+    requires inside { index < length (source_items words source) }
+    requires scalar { IsScalar (slice_index (source_items words source) index) }
+    ensures { result ≡ slice_index (source_items words.entry source) index }
 {
     match source {
-        Source::Few(characters) => characters[place],
-        Source::In16 => char::from_u32(words.scalars16.at(place) as u32).unwrap(),
-        Source::In24 => words.scalars24.at(place),
+        Source::Few(characters) => characters[index],
+        Source::In16 => char::from_u32(words.scalars16.at(index) as u32).unwrap(),
+        Source::In24 => words.scalars24.at(index),
     }
 }
 
 impl<'d> FullList<'d> {
-    /// The characters from one place to before another.
+    /// The characters from one index to before another.
     #[inline]
     fn new(words: Words<'d>, source: Source, next: usize, end: usize) -> FullList<'d>
         requires { IsPart (source_items words source) next end }
@@ -79,20 +79,20 @@ impl<'d> FullList<'d> {
     }
 }
 
-/// So many characters from a place on, as many as there are.
+/// So many characters from an index on, as many as there are.
 #[inline]
 fn part<'d>(
     words: Words<'d>,
     source: Source,
     items: usize,
-    place: usize,
+    index: usize,
     count: usize,
 ) -> FullList<'d>
     requires items { items ≡ length (source_items words source) }
-    requires scalars { All IsScalar (items_at (source_items words source) place count) }
-    ensures { result ≡ items_at (source_items words.entry source) place count }
+    requires scalars { All IsScalar (items_at (source_items words source) index count) }
+    ensures { result ≡ items_at (source_items words.entry source) index count }
 {
-    let next = place.min(items);
+    let next = index.min(items);
     let end = next + count.min(items - next);
     FullList::new(words, source, next, end)
 }
@@ -119,10 +119,10 @@ fn letters<'d>(words: Words<'d>, c: u32) -> FullList<'d>
     requires { c < 0x110000 }
     ensures { result ≡ syllable_letters c }
 {
-    let place = c.saturating_sub(0xac00);
-    let leading = letter(0x1100 + place / 588);
-    let vowel = letter(0x1161 + place % 588 / 28);
-    let trailing = place % 28;
+    let index = c.saturating_sub(0xac00);
+    let leading = letter(0x1100 + index / 588);
+    let vowel = letter(0x1161 + index % 588 / 28);
+    let trailing = index % 28;
     if trailing == 0 {
         two(words, leading, vowel)
     } else {
@@ -143,7 +143,7 @@ fn singled<'d>(words: Words<'d>, c: char) -> FullList<'d>
     }
 }
 
-/// The list that a word names a place of.
+/// The list that a word names an index of.
 #[tactic(auto, unfolding(crate::specs::CanonicalWords::list_at))]
 fn listed<'d>(words: Words<'d>, word: u32) -> FullList<'d>
     requires word { is_list_word word ≡ true }
@@ -228,9 +228,9 @@ impl Iterator for FullList<'_> {
         if self.next == self.end {
             return None;
         }
-        let place = self.next;
-        let c = character_at(self.words, self.source, place);
-        self.next = place + 1;
+        let index = self.next;
+        let c = character_at(self.words, self.source, index);
+        self.next = index + 1;
         Some(c)
     }
 }

@@ -17,17 +17,17 @@ pub(super) fn listed_pair(pairs: &PackedVec<'_, u64>, first: u32, second: u32) -
 {
     let key = ((first as u64) << 21) + second as u64;
     let count = pairs.len();
-    let place = first_past(
+    let index = first_past(
         count,
         |i|
             requires { i < length pairs.now }
             ensures { IsTrue result ↔ (slice_index pairs.entry.now i / 2 ^ 21 < key) }
         { pairs.at(i) >> 21 < key },
     );
-    if place == count {
+    if index == count {
         return None;
     }
-    let pair = pairs.at(place);
+    let pair = pairs.at(index);
     if pair >> 21 == key {
         Some(char::from_u32((pair % CODE_LIMIT) as u32).unwrap())
     } else {

@@ -15,11 +15,11 @@ pub(super) const NO_SECOND: u32 = 0x11_0000;
 /// The triple of a character among so many.
 pub(super) fn triple_of(steps: &PackedVec<'_, u32>, c: u32) -> Option<usize>
     requires { AreTriples steps.now }
-    ensures place { MatchOption result (IsUnlisted steps.now c) (IsTripleOf steps.now c) }
-    ensures fits { IfSome result (λ place. 3 * place + 2 < 2 ^ 64) }
+    ensures index { MatchOption result (IsUnlisted steps.now c) (IsTripleOf steps.now c) }
+    ensures fits { IfSome result (λ index. 3 * index + 2 < 2 ^ 64) }
 {
     let count = steps.len() / 3;
-    let place = first_past(
+    let index = first_past(
         count,
         |i|
             requires inside { 3 * i < length steps.now }
@@ -27,22 +27,22 @@ pub(super) fn triple_of(steps: &PackedVec<'_, u32>, c: u32) -> Option<usize>
             ensures { IsTrue result ↔ (slice_index steps.entry.now (3 * i) < c) }
         { steps.at(3 * i) < c },
     );
-    if place < count && steps.at(3 * place) == c {
-        Some(place)
+    if index < count && steps.at(3 * index) == c {
+        Some(index)
     } else {
         None
     }
 }
 
 /// The mapping that a triple states.
-pub(super) fn mapping_at(steps: &PackedVec<'_, u32>, place: usize) -> Decomposed
+pub(super) fn mapping_at(steps: &PackedVec<'_, u32>, index: usize) -> Decomposed
     requires triples { AreTriples steps.now }
-    requires place { 3 * place + 2 < length steps.now }
-    requires fits { 3 * place + 2 < 2 ^ 64 }
-    ensures { mapped_to result ≡ mapping (slice_index steps.now (3 * place + 1)) (slice_index steps.now (3 * place + 2)) }
+    requires index { 3 * index + 2 < length steps.now }
+    requires fits { 3 * index + 2 < 2 ^ 64 }
+    ensures { mapped_to result ≡ mapping (slice_index steps.now (3 * index + 1)) (slice_index steps.now (3 * index + 2)) }
 {
-    let first = steps.at(3 * place + 1);
-    let second = steps.at(3 * place + 2);
+    let first = steps.at(3 * index + 1);
+    let second = steps.at(3 * index + 2);
     let first = char::from_u32(first).unwrap();
     if second == NO_SECOND {
         Decomposed::Singleton(first)
@@ -57,7 +57,7 @@ pub(super) fn listed_step(steps: &PackedVec<'_, u32>, c: u32) -> Decomposed
     ensures { mapped_to result ≡ listed_step steps.now c }
 {
     match triple_of(steps, c) {
-        Some(place) => mapping_at(steps, place),
+        Some(index) => mapping_at(steps, index),
         None => Decomposed::Default,
     }
 }

@@ -15,7 +15,7 @@ use std::fmt;
 #[derive(Debug)]
 pub struct CanonicalTables<'a> {
     /// The canonical word of each code point: its class, or its full list. A list that fits into no word stands in
-    /// `scalars16` or `scalars24`, and the word says its place and its length; places are counted through
+    /// `scalars16` or `scalars24`, and the word says its index and its length; indices are counted through
     /// `scalars16` and on through `scalars24`.
     pub trie: CodePointTrie<'a, u32>,
     /// Full lists, one after another, of characters below 10000 (hex) alone. A builder leaves this empty.
@@ -87,7 +87,7 @@ impl fmt::Display for CanonicalFault {
 impl Error for CanonicalFault {}
 
 impl CanonicalTables<'_> {
-    /// The words, with the lists that they name places in.
+    /// The words, with the lists that they name indices in.
     #[inline]
     pub(crate) fn words(&self) -> Words<'_>
         ensures { word_lists result ≡ words_of (lists_of self.now) }

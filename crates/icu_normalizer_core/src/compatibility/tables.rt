@@ -16,7 +16,7 @@ pub struct NfkdTables<'a> {
     pub trie: CodePointTrie<'a, u32>,
     /// Full lists, one after another, of characters below 10000 (hex) alone; it may be empty.
     pub scalars16: PackedVec<'a, u16>,
-    /// Full lists, one after another, of any characters; their places are counted on from the end of `scalars16`.
+    /// Full lists, one after another, of any characters; their indices are counted on from the end of `scalars16`.
     pub scalars24: PackedVec<'a, char>,
 }
 
@@ -32,7 +32,7 @@ impl Drop for NfkdTables<'_> {
 }
 
 impl NfkdTables<'_> {
-    /// The words, with the lists that they name places in.
+    /// The words, with the lists that they name indices in.
     #[inline]
     pub(crate) fn words(&self) -> Words<'_>
         ensures { word_lists result ≡ nfkd_lists self.now }

@@ -17,7 +17,7 @@ use std::alloc::{AllocError, Global};
 const KEPT: usize = 4;
 
 /// Decomposed characters on their way out, in three parts: those that were taken, those that are in order and ready,
-/// and the marks behind the last starter, whose order is still open.
+/// and the marks after the last starter, whose order is still open.
 #[derive(Debug, Drop)]
 pub struct Run<'d> {
     basis: FormData<'d>,
@@ -105,7 +105,7 @@ impl<'d> Run<'d> {
         self.chars.truncate(left);
     }
 
-    /// Adds the full list of `c`. Fails only when out of memory, and then it holds no character any more.
+    /// Adds the full list of `c`. Fails only if memory is refused, and then it holds no character any more.
     #[inline]
     pub fn push_decomposed(&mut self, c: char) -> Result<(), AllocError>
         ensures ok { OnOk result (KeepsOutput self.old ((data_of self.old).full c) [] self.new) }
@@ -185,8 +185,8 @@ impl<'d> Run<'d> {
         Ok(())
     }
 
-    /// Makes every character ready, as is right before a starter and at the end of the text. Fails only when out of
-    /// memory, and then nothing changed.
+    /// Makes every character ready, as is right before a starter and at the end of the text. Fails only if memory is
+    /// refused, and then nothing changed.
     #[inline]
     pub fn finish(&mut self) -> Result<(), AllocError>
         ensures output { OnOk result (reordered self.new [] ≡ reordered self.old []) }
@@ -202,7 +202,8 @@ impl<'d> Run<'d> {
     }
 }
 
-/// Sorts the marks from a place on by class, stably. Fails only when out of memory, and then they stand as they stood.
+/// Sorts the marks from an index on by class, stably. Fails only if memory is refused, and then they stand as they
+/// stood.
 #[inline]
 pub fn sort_marks<const N: usize>(
     basis: FormData<'_>,

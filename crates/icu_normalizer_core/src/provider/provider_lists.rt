@@ -8,7 +8,7 @@ use icu_packed_vector::PackedVec;
 pub struct NfdLists<'a> {
     /// Full lists, one after another, of characters below 10000 (hex) alone; it may be empty.
     pub scalars16: PackedVec<'a, u16>,
-    /// Full lists, one after another, of any characters; their places are counted on from the end of `scalars16`.
+    /// Full lists, one after another, of any characters; their indices are counted on from the end of `scalars16`.
     pub scalars24: PackedVec<'a, char>,
     /// The mappings, three numbers each in rising order: the character, what it is mapped to first, and second,
     /// 110000 (hex) where there is no second.
@@ -20,7 +20,7 @@ pub struct NfdLists<'a> {
 pub struct NfkdLists<'a> {
     /// Full lists, one after another, of characters below 10000 (hex) alone; it may be empty.
     pub scalars16: PackedVec<'a, u16>,
-    /// Full lists, one after another, of any characters; their places are counted on from the end of `scalars16`.
+    /// Full lists, one after another, of any characters; their indices are counted on from the end of `scalars16`.
     pub scalars24: PackedVec<'a, char>,
 }
 

@@ -11,8 +11,8 @@ const COMMON_REST: u64 = 0x0500_0500;
 /// Appends the element of a lead and up to three bytes.
 fn push_bytes(elements: &mut Vec<u64>, lead: u8, bytes: &[u8]) -> Option<()> {
     let mut primary = [lead, 0, 0, 0];
-    for (place, byte) in primary.iter_mut().skip(1).zip(bytes) {
-        *place = *byte;
+    for (index, byte) in primary.iter_mut().skip(1).zip(bytes) {
+        *index = *byte;
     }
     let primary = u32::from_be_bytes(primary);
     elements.push((u64::from(primary) << 32) | COMMON_REST).ok()
@@ -75,7 +75,7 @@ fn significant(pairs: &[u32]) -> usize {
     pairs.len().saturating_sub(zeros)
 }
 
-/// The bytes of pairs, the last one less, behind the byte of their number.
+/// The bytes of pairs, the last one less, after the byte of their number.
 fn bytes_of(alloc: Global, pairs: &[u32]) -> Option<Vec<u8>> {
     let count = significant(pairs);
     let mut bytes = Vec::new(alloc);

@@ -22,7 +22,7 @@ pub struct Tables<'t> {
     pub tables: &'t CollationTables<'t>,
 }
 
-/// A word, and the data in whose lists it names places.
+/// A word, and the data in whose lists it names indices.
 #[derive(Clone, Copy)]
 struct Entry<'t> {
     word: u32,
@@ -37,8 +37,8 @@ fn tag_of(word: u32) -> Option<u32> {
     Some(word & 15)
 }
 
-/// The place that a word names.
-fn place_of(word: u32) -> usize
+/// The index that a word names.
+fn index_of(word: u32) -> usize
     ensures { result < 2 ^ 19 }
 {
     (word >> 13) as usize
@@ -62,20 +62,20 @@ fn stated(word: u32) -> Option<u64> {
     }
 }
 
-/// The elements that a list has from a place on.
+/// The elements that a list has from an index on.
 fn unpacked(alloc: Global, source: &CollationData<'_>, word: u32) -> Option<Vec<u64>> {
     let mut elements = Vec::new(alloc);
     for i in 0..length_of(word) {
-        elements.push(source.ces.get(place_of(word) + i)?).ok()?;
+        elements.push(source.ces.get(index_of(word) + i)?).ok()?;
     }
     Some(elements)
 }
 
-/// The elements that the words of a list state from a place on; a word of no element adds none.
+/// The elements that the words of a list state from an index on; a word of no element adds none.
 fn packed(alloc: Global, source: &CollationData<'_>, word: u32) -> Option<Vec<u64>> {
     let mut elements = Vec::new(alloc);
     for i in 0..length_of(word) {
-        let word = source.ce32s.get(place_of(word) + i)?;
+        let word = source.ce32s.get(index_of(word) + i)?;
         if word != 0 {
             elements.push(stated(word)?).ok()?;
         }
@@ -144,8 +144,8 @@ impl<'t> Entry<'t> {
 
     /// The default word of the context that the word names.
     fn default_word(self) -> Option<Entry<'t>> {
-        let upper = self.source.contexts.get(place_of(self.word))?;
-        let lower = self.source.contexts.get(place_of(self.word) + 1)?;
+        let upper = self.source.contexts.get(index_of(self.word))?;
+        let lower = self.source.contexts.get(index_of(self.word) + 1)?;
         Some(self.with((u32::from(upper) << 16) | u32::from(lower)))
     }
 
@@ -157,12 +157,12 @@ impl<'t> Entry<'t> {
         Some(self)
     }
 
-    /// The word of a character with nothing before or behind it.
+    /// The word of a character with nothing before or after it.
     fn alone(self) -> Option<Entry<'t>> {
         let entry = self.unprefixed()?;
         match tag_of(entry.word) {
             Some(9) => entry.default_word(),
-            Some(10) => Some(entry.with(entry.source.ce32s.get(place_of(entry.word))?)),
+            Some(10) => Some(entry.with(entry.source.ce32s.get(index_of(entry.word))?)),
             _ => Some(entry),
         }
     }
@@ -182,7 +182,7 @@ impl<'t> Entry<'t> {
     /// The word of what a context has for characters in the order in which they are followed.
     fn found(self, characters: &[char]) -> Option<Entry<'t>> {
         let contexts = &self.source.contexts;
-        let units = contexts.subslice(place_of(self.word) + 2..contexts.len())?;
+        let units = contexts.subslice(index_of(self.word) + 2..contexts.len())?;
         let answer = followed(&Char16Trie::new(units), characters);
         Some(self.with(word_of(answer)?))
     }
@@ -244,7 +244,7 @@ impl<'t> Tables<'t> {
         Some((entry.word >> 8) & 15)
     }
 
-    /// The elements that are recorded of a character behind a prefix.
+    /// The elements that are recorded of a character after a prefix.
     fn prefixed(&self, alloc: Global, prefix: &[char], c: char) -> Option<Vec<u64>> {
         let entry = self.entry(c);
         if tag_of(entry.word) != Some(8) {
@@ -263,7 +263,7 @@ impl<'t> Tables<'t> {
         entry.found(behind)?.elements(alloc)
     }
 
-    /// The elements that are recorded of a text behind a prefix.
+    /// The elements that are recorded of a text after a prefix.
     pub fn recorded(&self, alloc: Global, prefix: &[char], text: &[char]) -> Option<Vec<u64>> {
         match (prefix, text) {
             ([], [c]) => self.entry(*c).alone()?.elements(alloc),
@@ -282,7 +282,7 @@ impl<'t> Tables<'t> {
     fn own(&self, c: char) -> Option<u64> {
         let entry = self.entry(c).alone()?;
         let primary = match tag_of(entry.word) {
-            Some(14) => moved_primary(entry.source.ces.get(place_of(entry.word))?, c)?,
+            Some(14) => moved_primary(entry.source.ces.get(index_of(entry.word))?, c)?,
             _ => unranged_primary(c),
         };
         Some((u64::from(primary) << 32) | COMMON_REST)

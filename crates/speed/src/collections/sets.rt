@@ -21,8 +21,8 @@ enum Order {
 }
 
 impl Order {
-    /// The place of the range that is added so many ranges in.
-    fn place(self, count: u32) -> u32
+    /// The index of the range that is added so many ranges in.
+    fn index(self, count: u32) -> u32
         requires { count < 10000 }
         ensures { result < 10000 }
     {
@@ -37,7 +37,7 @@ impl Order {
 fn build(alloc: Global, order: Order) -> Result<CodePointInversionList<'static>, AllocError> {
     let mut builder = CodePointInversionListBuilder::new(alloc);
     for count in 0..RANGES {
-        let first = 100 * order.place(count);
+        let first = 100 * order.index(count);
         builder.add_range32(first..=first + 49)?;
     }
     builder.build()

@@ -43,7 +43,7 @@ fn random_keys(alloc: Global, count: u32) -> Result<Vec<Vec<u16>>, AllocError> {
     Ok(keys)
 }
 
-/// The keys, each with its place as its value.
+/// The keys, each with its index as its value.
 fn with_values(alloc: Global, keys: &[Vec<u16>]) -> Result<Vec<(&[u16], i32)>, AllocError> {
     let mut pairs = Vec::new(alloc);
     for (value, key) in (0i32..i32::MAX).zip(keys) {

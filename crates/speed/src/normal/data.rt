@@ -107,11 +107,11 @@ impl Mapping {
         if list.is_empty() || list.len() > LIST_LIMIT {
             return None;
         }
-        let place = u32::try_from(self.scalars.len()).ok()?;
+        let index = u32::try_from(self.scalars.len()).ok()?;
         let count = u32::try_from(list.len()).ok()?;
         add_characters(&mut self.scalars, list)?;
         Some(
-            place
+            index
                 .checked_mul(0x2000)?
                 .checked_add(count.checked_mul(0x100)?)?
                 .checked_add(3)?,

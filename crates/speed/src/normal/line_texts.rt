@@ -32,7 +32,7 @@ pub fn known_lines(alloc: Global, file: &[u8]) -> Option<Vec<Text<'_>>> {
     Some(texts)
 }
 
-/// What stands between the newlines of bytes, before the first and behind the last.
+/// What stands between the newlines of bytes, before the first and after the last.
 pub fn byte_lines(alloc: Global, file: &[u8]) -> Option<Vec<Text<'_>>> {
     let mut texts = Vec::new(alloc);
     for line in file.split(|byte| *byte == 0xa) {

@@ -132,7 +132,7 @@ fn row_of_blocks(alloc: Global, trie_type: TrieType) -> Option<CodePointTrie<'st
     }
 }
 
-/// Whether a trie has these values, and 0 behind each.
+/// Whether a trie has these values, and 0 after each.
 fn has_blocks(trie: &CodePointTrie<'_, u32>) -> bool {
     for number in 0..15_839u32 {
         let code_point = 0x1000 + 0x10 * number;

@@ -6,26 +6,26 @@ use Rattle.collate_index.proofs.changes.nothing_known.Goals as goal
 IsNone : Option Bool → Type 0
 IsNone is = is ≡ None
 
-pub places-init : goal.places-init
+pub characters-init : goal.characters-init
 unfolding IsNone
-places-init c = record {
+characters-init c = record {
   nothing = All-same IsNone c.in_ok-known.known.items [] c.in_ok-known.ensures.items (All-nil IsNone);
   room = ap length c.in_ok-known.ensures.items;
   upto = omega arith;
 }
 
-pub places-preserved : goal.places-preserved
+pub characters-preserved : goal.characters-preserved
 unfolding IsNone
-places-preserved c = record {
+characters-preserved c = record {
   nothing =
-      All-same IsNone c.push.new.self.items (c.places.known.items ++ None ∷ []) c.in_ok-push.ensures.items
-      (All-push IsNone c.places.known.items None c.places.invariant.nothing refl);
-  room = omega (arith, ap length c.in_ok-push.ensures.items, length_push c.places.known.items None, c.places.invariant.room);
-  upto = omega (arith, c.places-test.true);
+      All-same IsNone c.push.new.self.items (c.characters.known.items ++ None ∷ []) c.in_ok-push.ensures.items
+      (All-push IsNone c.characters.known.items None c.characters.invariant.nothing refl);
+  room = omega (arith, ap length c.in_ok-push.ensures.items, length_push c.characters.known.items None, c.characters.invariant.room);
+  upto = omega (arith, c.characters-test.true);
 }
 
 pub returns-clause-nothing : goal.returns-clause-nothing
-returns-clause-nothing c = c.places.invariant.nothing
+returns-clause-nothing c = c.characters.invariant.nothing
 
 pub returns-clause-room : goal.returns-clause-room
-returns-clause-room c = omega (arith, c.places.invariant.room, c.places.invariant.upto, c.places-test.false)
+returns-clause-room c = omega (arith, c.characters.invariant.room, c.characters.invariant.upto, c.characters-test.false)

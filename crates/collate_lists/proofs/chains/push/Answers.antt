@@ -8,7 +8,7 @@ pub put_in-requires-clause-linked : goal.put_in-requires-clause-linked
 put_in-requires-clause-linked c =
     let heads : List ℕ = c.args.heads.now.items in
     let links : List Link = c.args.links.now.items in
-    let place : c.len-place.result ≡ length links = c.len-place.ensures ∙ c.args.links.now.ok.0 in
-    subst (IsLinkedTo heads c.push_reserved.new.self.items) (sym place)
+    let slot : c.len-slot.result ≡ length links = c.len-slot.ensures ∙ c.args.links.now.ok.0 in
+    subst (IsLinkedTo heads c.push_reserved.new.self.items) (sym slot)
     (subst (λ (ls : List Link). IsLinkedTo heads ls (length links)) (sym c.push_reserved.ensures.items)
     (linked_push heads links (record { hash = c.args.hash; before = 0 }) c.requires.linked.all))

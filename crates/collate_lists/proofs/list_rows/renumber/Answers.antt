@@ -5,7 +5,7 @@ use Rattle.collate_lists.proofs.list_rows.renumber.Goals as goal
 pub renumber_list-requires : goal.renumber_list-requires
 renumber_list-requires c =
     let within : c.loop-part.part < length c.args.lists.now.items = omega (arith, c.loop-part-test.true, c.len-part-end.ensures, c.args.lists.now.ok.0) in
-    part_all (λ value. value.place < length c.args.numbers.now) c.args.lists.now.items c.loop-part.part c.index_mut.result.now within
+    part_all (λ value. value.slot < length c.args.numbers.now) c.args.lists.now.items c.loop-part.part c.index_mut.result.now within
     (c.index_mut.ensures.value ∙ c.loop-part.invariant.left c.loop-part.part c.index_mut.result.now (omega arith)) c.requires.numbers
 
 pub returns-clause-values : goal.returns-clause-values

@@ -20,13 +20,13 @@ returns-in-Err g c = λ m files same left kept.
     let p = c.merge.invariant m files same left kept in
     let accepted = accepted_by m c.args.order.now same.0 c.keep_rules.ensures in
     let direction_is = c.direction.ensures ∙ sym (ap (λ (r : LineRule). r.direction) same.0) in
-    let least = found_least c.direction.result c.as_slice.result.now c.merge.sources.items c.least.result c.in-Some.place c.as_slice.ensures.value c.in-Some.is c.least.ensures in
-    step_cut g.R.Read.remaining m files c.merge.sources.items c.merge.output (w c.args.writer.now) (w c.merge.writer) p accepted c.direction.result direction_is c.in-Some.place least
+    let least = found_least c.direction.result c.as_slice.result.now c.merge.sources.items c.least.result c.in-Some.index c.as_slice.ensures.value c.in-Some.is c.least.ensures in
+    step_cut g.R.Read.remaining m files c.merge.sources.items c.merge.output (w c.args.writer.now) (w c.merge.writer) p accepted c.direction.result direction_is c.in-Some.index least
     c.index_mut.result.now c.index_mut.ensures.value c.step.new.source c.step.new.output (w c.step.new.writer) c.in-Err.error
-    (c.in-Err.ensures m (length (lines_in m.separator (get_or files c.in-Some.place [])))
-    (behind_first g.R.Read.remaining m files c.merge.sources.items c.merge.output (w c.args.writer.now) (w c.merge.writer) p accepted c.direction.result direction_is c.in-Some.place least c.index_mut.result.now c.index_mut.ensures.value)
+    (c.in-Err.ensures m (length (lines_in m.separator (get_or files c.in-Some.index [])))
+    (behind_first g.R.Read.remaining m files c.merge.sources.items c.merge.output (w c.args.writer.now) (w c.merge.writer) p accepted c.direction.result direction_is c.in-Some.index least c.index_mut.result.now c.index_mut.ensures.value)
     p.last same
-    (first_line g.R.Read.remaining m files c.merge.sources.items c.merge.output (w c.args.writer.now) (w c.merge.writer) p accepted c.direction.result direction_is c.in-Some.place least c.index_mut.result.now c.index_mut.ensures.value)
+    (first_line g.R.Read.remaining m files c.merge.sources.items c.merge.output (w c.args.writer.now) (w c.merge.writer) p accepted c.direction.result direction_is c.in-Some.index least c.index_mut.result.now c.index_mut.ensures.value)
     p.kept)
 
 pub merge-preserved : goal.merge-preserved
@@ -35,13 +35,13 @@ merge-preserved g c = λ m files same left kept.
     let p = c.merge.invariant m files same left kept in
     let accepted = accepted_by m c.args.order.now same.0 c.keep_rules.ensures in
     let direction_is = c.direction.ensures ∙ sym (ap (λ (r : LineRule). r.direction) same.0) in
-    let least = found_least c.direction.result c.as_slice.result.now c.merge.sources.items c.least.result c.in-Some.place c.as_slice.ensures.value c.in-Some.is c.least.ensures in
-    step_more g.R.Read.remaining m files c.merge.sources.items c.merge.output (w c.args.writer.now) (w c.merge.writer) p accepted c.direction.result direction_is c.in-Some.place least
+    let least = found_least c.direction.result c.as_slice.result.now c.merge.sources.items c.least.result c.in-Some.index c.as_slice.ensures.value c.in-Some.is c.least.ensures in
+    step_more g.R.Read.remaining m files c.merge.sources.items c.merge.output (w c.args.writer.now) (w c.merge.writer) p accepted c.direction.result direction_is c.in-Some.index least
     c.index_mut.result.now c.index_mut.ensures.value c.step.new.source c.step.new.output (w c.step.new.writer) c.in-Ok.field-0
-    (c.in-Ok.ensures m (length (lines_in m.separator (get_or files c.in-Some.place [])))
-    (behind_first g.R.Read.remaining m files c.merge.sources.items c.merge.output (w c.args.writer.now) (w c.merge.writer) p accepted c.direction.result direction_is c.in-Some.place least c.index_mut.result.now c.index_mut.ensures.value)
+    (c.in-Ok.ensures m (length (lines_in m.separator (get_or files c.in-Some.index [])))
+    (behind_first g.R.Read.remaining m files c.merge.sources.items c.merge.output (w c.args.writer.now) (w c.merge.writer) p accepted c.direction.result direction_is c.in-Some.index least c.index_mut.result.now c.index_mut.ensures.value)
     p.last same
-    (first_line g.R.Read.remaining m files c.merge.sources.items c.merge.output (w c.args.writer.now) (w c.merge.writer) p accepted c.direction.result direction_is c.in-Some.place least c.index_mut.result.now c.index_mut.ensures.value)
+    (first_line g.R.Read.remaining m files c.merge.sources.items c.merge.output (w c.args.writer.now) (w c.merge.writer) p accepted c.direction.result direction_is c.in-Some.index least c.index_mut.result.now c.index_mut.ensures.value)
     p.kept)
 
 pub returns : goal.returns

@@ -11,16 +11,16 @@ loop-reader-preserved g c =
     let gives = c.into_iter-reader-iterator.ensures.into_iter_gives in
     let turn = YieldsList-turn (YieldsList-from_vec c.args.readers.items gives.0 (omega (arith, gives.1, c.args.readers.ok.0)))
     c.loop-reader.yielded _ c.loop-reader.yielded_by c.next.result c.next.new.self c.in-Some.reader c.in-Some.is c.next.ensures.steps in
-    let place : ℕ = length c.loop-reader.yielded in
-    let more : length (c.loop-reader.yielded ++ c.in-Some.reader ∷ []) ≡ place + 1 = length_push c.loop-reader.yielded c.in-Some.reader in
+    let index : ℕ = length c.loop-reader.yielded in
+    let more : length (c.loop-reader.yielded ++ c.in-Some.reader ∷ []) ≡ index + 1 = length_push c.loop-reader.yielded c.in-Some.reader in
     let pushed : c.push.new.self.items ≡ c.loop-reader.sources.items ++ c.in-Ok.source ∷ [] = c.in-Ok-push.ensures.items in
     record {
       long = ap length pushed ∙ length_push c.loop-reader.sources.items c.in-Ok.source ∙ ap (λ (n : ℕ). n + 1) c.loop-reader.invariant.long ∙ sym more;
       opened = λ m files same known.
           subst (λ (n : ℕ). AreOpened remaining m files n c.push.new.self.items) (sym more)
-          (subst (AreOpened remaining m files (place + 1)) (sym pushed)
-          (opened_more remaining m files place c.loop-reader.sources.items c.in-Ok.source c.loop-reader.invariant.long (c.loop-reader.invariant.opened m files same known)
-          (c.in-Ok.ensures.opened m (get_or files place []) same (known_at remaining c.args.readers.items files known place c.in-Some.reader turn.0 turn.1))));
+          (subst (AreOpened remaining m files (index + 1)) (sym pushed)
+          (opened_more remaining m files index c.loop-reader.sources.items c.in-Ok.source c.loop-reader.invariant.long (c.loop-reader.invariant.opened m files same known)
+          (c.in-Ok.ensures.opened m (get_or files index []) same (known_at remaining c.args.readers.items files known index c.in-Some.reader turn.0 turn.1))));
     }
 
 pub returns-clause-opened : goal.returns-clause-opened

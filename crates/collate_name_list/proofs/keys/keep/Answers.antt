@@ -5,4 +5,4 @@ use Rattle.collate_name_list.proofs.keys.keep.Goals as goal
 pub returns-then-has_kept : goal.returns-then-has_kept
 returns-then-has_kept c =
     ok_then c.push.result c.push.ensures.pushed (λ is.
-    is ∙ sym (ap (λ b. c.args.places.now ++ cond b (c.args.placed ∷ []) []) (sym c.has_kept.ensures ∙ c.if-has_kept.true)))
+    is ∙ sym (ap (λ b. c.args.ranked.now ++ cond b (c.args.placed ∷ []) []) (sym c.has_kept.ensures ∙ c.if-has_kept.true)))

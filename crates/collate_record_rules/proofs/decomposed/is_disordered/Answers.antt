@@ -8,18 +8,18 @@ use Rattle.collate_record_rules.proofs.decomposed.is_disordered.Goals as goal
 
 pub returns : goal.returns
 returns c =
-    disordered_short (class_of (map said c.args.given.now.lines.now)) (drop c.loop-place.place c.args.list.now) (omega (arith, length-drop c.loop-place.place c.args.list.now, c.loop-place-test.false))
-    ∙ c.loop-place.invariant.same
+    disordered_short (class_of (map said c.args.given.now.lines.now)) (drop c.loop-index.index c.args.list.now) (omega (arith, length-drop c.loop-index.index c.args.list.now, c.loop-index-test.false))
+    ∙ c.loop-index.invariant.same
 
 pub returns-then-are_disordered : goal.returns-then-are_disordered
 returns-then-are_disordered c =
-    disordered_hit (class_of (map said c.args.given.now.lines.now)) c.args.list.now c.loop-place.place c.index-list-place.result c.index-list-place-in-loop-place.result
-    c.loop-place-test.true c.index-list-place.is c.index-list-place-in-loop-place.is (sym c.are_disordered.ensures ∙ c.if-are_disordered.true) c.loop-place.invariant.same
+    disordered_hit (class_of (map said c.args.given.now.lines.now)) c.args.list.now c.loop-index.index c.index-list-index.result c.index-list-index-in-loop-index.result
+    c.loop-index-test.true c.index-list-index.is c.index-list-index-in-loop-index.is (sym c.are_disordered.ensures ∙ c.if-are_disordered.true) c.loop-index.invariant.same
 
-pub loop-place-preserved : goal.loop-place-preserved
-loop-place-preserved c = record {
+pub loop-index-preserved : goal.loop-index-preserved
+loop-index-preserved c = record {
   within = omega arith;
   same =
-      disordered_miss (class_of (map said c.args.given.now.lines.now)) c.args.list.now c.loop-place.place c.index-list-place.result c.index-list-place-in-loop-place.result
-      c.loop-place-test.true c.index-list-place.is c.index-list-place-in-loop-place.is (sym c.are_disordered.ensures ∙ c.if-are_disordered.false) c.loop-place.invariant.same;
+      disordered_miss (class_of (map said c.args.given.now.lines.now)) c.args.list.now c.loop-index.index c.index-list-index.result c.index-list-index-in-loop-index.result
+      c.loop-index-test.true c.index-list-index.is c.index-list-index-in-loop-index.is (sym c.are_disordered.ensures ∙ c.if-are_disordered.false) c.loop-index.invariant.same;
 }

@@ -4,11 +4,11 @@ use Rattle.collate_rules.specs.Meaning.{class_of}
 use Rattle.collate_rules.specs.RecordRules.{is_disordered}
 use Rattle.collate_record_rules.proofs.decomposed.is_disordered.Given as goal
 
-abbrev pub invariant-loop-place : goal.invariant-loop-place
-invariant-loop-place l = record {
-  within : l.place ≤ length l.list;
-  same : is_disordered (class_of (map said l.given.lines.now)) (drop l.place l.list) ≡ is_disordered (class_of (map said l.given.lines.now)) l.list;
+abbrev pub invariant-loop-index : goal.invariant-loop-index
+invariant-loop-index l = record {
+  within : l.index ≤ length l.list;
+  same : is_disordered (class_of (map said l.given.lines.now)) (drop l.index l.list) ≡ is_disordered (class_of (map said l.given.lines.now)) l.list;
 }
 
-abbrev pub decreases-loop-place : goal.decreases-loop-place
-decreases-loop-place l = length l.list - l.place
+abbrev pub decreases-loop-index : goal.decreases-loop-index
+decreases-loop-index l = length l.list - l.index

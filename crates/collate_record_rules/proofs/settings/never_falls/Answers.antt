@@ -5,5 +5,5 @@ use Rattle.collate_record_rules.proofs.settings.never_falls.Goals as goal
 
 pub returns : goal.returns
 returns c =
-    never_falls_short (drop c.loop-place.place c.args.groups.now) (omega (arith, length-drop c.loop-place.place c.args.groups.now, c.loop-place-test.false))
-    ∙ c.loop-place.invariant.same
+    never_falls_short (drop c.loop-index.index c.args.groups.now) (omega (arith, length-drop c.loop-index.index c.args.groups.now, c.loop-index-test.false))
+    ∙ c.loop-index.invariant.same

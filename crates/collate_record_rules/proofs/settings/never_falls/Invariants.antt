@@ -2,11 +2,11 @@ use Rattle.std.proofs.Common.{◌≡◌, ◌-◌, ◌≤◌, drop, length}
 use Rattle.icu_collator_core.specs.SettingRules.{never_falls}
 use Rattle.collate_record_rules.proofs.settings.never_falls.Given as goal
 
-abbrev pub invariant-loop-place : goal.invariant-loop-place
-invariant-loop-place l = record {
-  within : l.place ≤ length l.groups;
-  same : never_falls (drop l.place l.groups) ≡ never_falls l.groups;
+abbrev pub invariant-loop-index : goal.invariant-loop-index
+invariant-loop-index l = record {
+  within : l.index ≤ length l.groups;
+  same : never_falls (drop l.index l.groups) ≡ never_falls l.groups;
 }
 
-abbrev pub decreases-loop-place : goal.decreases-loop-place
-decreases-loop-place l = length l.groups - l.place
+abbrev pub decreases-loop-index : goal.decreases-loop-index
+decreases-loop-index l = length l.groups - l.index

@@ -13,7 +13,7 @@ narrowing-preserved-then-is_broken g c =
       within = omega arith;
       below = c.narrowing.invariant.below;
       broken =
-          sym (part_tested (g.T.LinesTest.breach c.args.test.now) c.args.records.now _ c.next_place-line.result c.in_ok-is_broken-2.is_broken c.in_ok-is_broken-2.ensures
+          sym (part_tested (g.T.LinesTest.breach c.args.test.now) c.args.records.now _ c.next_index-line.result c.in_ok-is_broken-2.is_broken c.in_ok-is_broken-2.ensures
           (ap (λ (n : ℕ). take n c.args.records.now) (omega arith))) ∙ c.if-is_broken.true;
     }
 
@@ -22,7 +22,7 @@ narrowing-preserved g c =
     record {
       order = omega arith;
       within = c.narrowing.invariant.within;
-      below = λ lasting. none_up_to (g.T.LinesTest.breach c.args.test.now) lasting c.args.records.now _ c.next_place-line.result c.in_ok-is_broken-2.is_broken c.in_ok-is_broken-2.ensures
+      below = λ lasting. none_up_to (g.T.LinesTest.breach c.args.test.now) lasting c.args.records.now _ c.next_index-line.result c.in_ok-is_broken-2.is_broken c.in_ok-is_broken-2.ensures
           (ap (λ (n : ℕ). take n c.args.records.now) (omega arith)) c.if-is_broken.false;
       broken = c.narrowing.invariant.broken;
     }

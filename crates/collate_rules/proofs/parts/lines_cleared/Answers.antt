@@ -16,7 +16,7 @@ returns-then-is_clear-clause-clear g c = λ rule asks clear k below.
 
 pub of_lines-requires-in-narrowing : goal.of_lines-requires-in-narrowing
 of_lines-requires-in-narrowing g c =
-    All-front IsShort c.args.records.now _ c.next_place-count.result
+    All-front IsShort c.args.records.now _ c.next_index-count.result
     (ap (λ (n : ℕ). take n c.args.records.now) (omega arith)) c.requires.canonical
 
 pub narrowing-preserved : goal.narrowing-preserved
@@ -29,7 +29,7 @@ narrowing-preserved g c =
             clear = λ rule asks clear k below.
                 let tested : FnReturnsAt g.C.Fn c.args.clears c.in_ok-front.front c.clears-in-narrowing.result =
                 record { shown = _; shows = refl {A = CanonicalParts}; says = record { met = c.clears-in-narrowing.ensures } } in
-                cleared_front rule (FnReturnsAt g.C.Fn c.args.clears) clear asks c.in_ok-front.front c.args.records.now _ c.next_place-count.result
+                cleared_front rule (FnReturnsAt g.C.Fn c.args.clears) clear asks c.in_ok-front.front c.args.records.now _ c.next_index-count.result
                 c.clears-in-narrowing.result c.in_ok-is_front_clear.is_front_clear (ap (λ (n : ℕ). take n c.args.records.now) (omega arith)) c.in_ok-front.ensures
                 tested c.in_ok-is_front_clear.was w.if-is_front_clear.true k (omega (arith, below, w.low-is));
           }

@@ -3,6 +3,6 @@ use Rattle.collate_index.specs.Catalogue.{sorted_names}
 use Rattle.collate_run.specs.Replies.{ended}
 use Rattle.collate_run.proofs.replies.listing_of.Given as goal
 
-abbrev pub invariant-loop-place : goal.invariant-loop-place
-invariant-loop-place l =
-    l.text.items ≡ codes "names " ++ decimal (l.fn.places.end - l.fn.places.start) ++ 10 ∷ [] ++ flat_map ended (slice_range (sorted_names l.index) l.fn.places.start l.place)
+abbrev pub invariant-loop-rank : goal.invariant-loop-rank
+invariant-loop-rank l =
+    l.text.items ≡ codes "names " ++ decimal (l.fn.ranks.end - l.fn.ranks.start) ++ 10 ∷ [] ++ flat_map ended (slice_range (sorted_names l.index) l.fn.ranks.start l.rank)

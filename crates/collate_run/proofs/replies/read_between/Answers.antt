@@ -6,8 +6,8 @@ use Rattle.collate_run.proofs.replies.read_between.Goals as goal
 pub returns-in-Some : goal.returns-in-Some
 returns-in-Some c =
     let names = c.args.names.now in
-    let place = c.in-Some.place in
-    ap (λ (last : List ℕ). between (take place names) last) (take_rest names (place + 1)) ∙ ap (parted_at names) c.in-Some.ensures.place
+    let tab = c.in-Some.tab in
+    ap (λ (last : List ℕ). between (take tab names) last) (take_rest names (tab + 1)) ∙ ap (parted_at names) c.in-Some.ensures.index
 
 pub returns-in-None : goal.returns-in-None
-returns-in-None c = ap (parted_at c.args.names.now) c.in-None.ensures.place
+returns-in-None c = ap (parted_at c.args.names.now) c.in-None.ensures.index

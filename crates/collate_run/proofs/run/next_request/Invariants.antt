@@ -5,7 +5,7 @@ use Rattle.collate_run.specs.Replies.{behind}
 use Rattle.collate_run.specs.Watched.{watched_inner, watched_failed}
 use Rattle.collate_run.proofs.run.next_request.Given as goal
 
--- the line has been read, and so many record lines behind it
+-- the line has been read, and so many record lines after it
 abbrev pub invariant-loop : goal.invariant-loop
 invariant-loop g l = record {
   same : watched_failed l.reader ≡ watched_failed l.fn.reader;

@@ -2,14 +2,14 @@ use Rattle.std.proofs.Common.{◌≡◌, ◌+◌, false, map, take, sym, ◌∙�
 use Rattle.std.proofs.lemmas.List.{length-map}
 use Rattle.collate_lines.specs.Record.{said}
 use Rattle.collate_rules.specs.GivenWeights.{BreakApart}
-use Rattle.collate_rules.proofs.given.GivenPlaceLemmas.{first_line}
+use Rattle.collate_rules.proofs.given.GivenIndexLemmas.{first_line}
 use Rattle.collate_weight_rules.specs.PlacedWeights.{are_apart_to}
 use Rattle.collate_weight_rules.proofs.soundness.PlacedLemmas.{apart_to, told_as}
 use Rattle.collate_weight_rules.proofs.soundness.StayLemmas.{apart_stays}
 use Rattle.collate_weight_rules.proofs.apart.first_begun_weight.Goals as goal
 
-pub first_place-requires : goal.first_place-requires
-first_place-requires c = sym (c.in_ok-test.ensures.count ∙ length-map c.args.records.now said)
+pub first_index-requires : goal.first_index-requires
+first_index-requires c = sym (c.in_ok-test.ensures.count ∙ length-map c.args.records.now said)
 
 pub returns : goal.returns
 returns c =

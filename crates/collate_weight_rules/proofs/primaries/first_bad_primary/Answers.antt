@@ -1,7 +1,7 @@
 use Rattle.std.proofs.Common.{◌+◌, map, take}
 use Rattle.collate_lines.specs.Record.{said}
 use Rattle.collate_rules.specs.GivenWeights.{BreakPrimaries}
-use Rattle.collate_rules.proofs.given.GivenPlaceLemmas.{first_line}
+use Rattle.collate_rules.proofs.given.GivenIndexLemmas.{first_line}
 use Rattle.collate_weight_rules.proofs.soundness.StayLemmas.{primaries_stay}
 use Rattle.collate_weight_rules.proofs.primaries.first_bad_primary.Goals as goal
 

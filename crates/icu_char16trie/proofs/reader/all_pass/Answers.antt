@@ -1,14 +1,14 @@
 use Rattle.std.proofs.Common.{◌∙◌, sym, subst}
 use Rattle.icu_char16trie.specs.UnitReadingOrder.{StopsAt, root_valued, jobs_left}
 use Rattle.icu_char16trie.specs.declared.reader.error.ReadUnitsError.TheVariants.{BadUnits}
-use Rattle.icu_char16trie.proofs.Reading.ErrorLemmas.{error-same, place-same}
+use Rattle.icu_char16trie.proofs.Reading.ErrorLemmas.{error-same, index-same}
 use Rattle.icu_char16trie.proofs.Reading.OutcomeLemmas.{first_jobs, stops_read, refused_read}
 use Rattle.icu_char16trie.proofs.Reading.TestLemmas.{tested_root, tested_says}
 use Rattle.icu_char16trie.proofs.reader.all_pass.Goals as goal
 
-pub returns-then-lead-ge64-clause-place : goal.returns-then-lead-ge64-clause-place
-returns-then-lead-ge64-clause-place g c place e =
-    subst (λ place. StopsAt c.args.units.now c.args.limit place) (place-same 0 place (error-same (BadUnits 0) (BadUnits place) e))
+pub returns-then-lead-ge64-clause-index : goal.returns-then-lead-ge64-clause-index
+returns-then-lead-ge64-clause-index g c index e =
+    subst (λ index. StopsAt c.args.units.now c.args.limit index) (index-same 0 index (error-same (BadUnits 0) (BadUnits index) e))
     (root_valued c.in-Some.lead (sym c.unit_at.ensures.unit ∙ c.in-Some.is) c.if-lead-ge64.true)
 
 pub returns-in-Ok-clause-passed : goal.returns-in-Ok-clause-passed
@@ -33,13 +33,13 @@ returns-in-Ok-clause-bound g c =
     found.1.bound
 
 pub returns-clause-refused : goal.returns-clause-refused
-returns-clause-refused g c place e =
+returns-clause-refused g c index e =
     refused_read c.args.units.now c.args.limit c.in-Some.lead (jobs_left c.put.new.self) (sym c.unit_at.ensures.unit ∙ c.in-Some.is) c.if-lead-ge64.false
     (first_jobs (jobs_left c.put.new.self) (jobs_left c.new-queue.result) c.new.result.items c.in_ok-put.ensures.jobs c.new.ensures.items c.new-queue.ensures.jobs)
-    place (c.in-Err.ensures.stops place e)
+    index (c.in-Err.ensures.stops index e)
 
-pub returns-clause-place : goal.returns-clause-place
-returns-clause-place g c place e =
+pub returns-clause-index : goal.returns-clause-index
+returns-clause-index g c index e =
     stops_read c.args.units.now c.args.limit c.in-Some.lead (jobs_left c.put.new.self) (sym c.unit_at.ensures.unit ∙ c.in-Some.is) c.if-lead-ge64.false
     (first_jobs (jobs_left c.put.new.self) (jobs_left c.new-queue.result) c.new.result.items c.in_ok-put.ensures.jobs c.new.ensures.items c.new-queue.ensures.jobs)
-    place (c.in-Err.ensures.stops place e)
+    index (c.in-Err.ensures.stops index e)

@@ -4,7 +4,7 @@ use Rattle.icu_char16trie.proofs.Writing.KeyFaultLemmas.{none_more, none_all, ke
 use Rattle.icu_char16trie.proofs.writer.first_fault.Goals as goal
 use Rattle.icu_char16trie.proofs.writer.first_fault.Goals.{else-index-gt0-via-then-index-gt0+else-not-comes_before, else-index-gt0-via-else-index-gt0}
 
--- what stands at no place
+-- what stands at no index
 abbrev no_key : Bor (List ℕ) × ℤ
 no_key = (record { ref_ptr = (0, 0); now = [] }, pos 0)
 

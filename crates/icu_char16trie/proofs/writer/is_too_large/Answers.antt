@@ -2,7 +2,7 @@ use Rattle.std.proofs.Common.{◌+◌, ℕ, ℤ, List, [], Bor, pos, refl, arith
 use Rattle.icu_char16trie.proofs.Writing.KeyFaultLemmas.{total_more, total_least}
 use Rattle.icu_char16trie.proofs.writer.is_too_large.Goals as goal
 
--- what stands at no place
+-- what stands at no index
 abbrev no_key : Bor (List ℕ) × ℤ
 no_key = (record { ref_ptr = (0, 0); now = [] }, pos 0)
 

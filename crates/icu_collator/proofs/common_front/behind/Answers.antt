@@ -5,18 +5,18 @@ use Rattle.icu_normalizer_core.proofs.decomposed_lists.IterLemmas.{Spells-end, S
 use Rattle.icu_collator.proofs.common_front.behind.Goals as goal
 
 -- an iterator with characters left gives one
-not_ended : {I : Type 0} (steps : I → Option ℕ → I → Type 0) (s t : I) (text : List ℕ) (place count : ℕ) → Spells steps s (drop place text)
-    → steps s None t → place < count → count ≤ length text → ⊥
-not_ended steps s t text place count h step inside within =
-    let none = ap (λ (w : List ℕ). length w) (Spells-end steps s t (drop place text) step h) in
-    omega (arith, none, inside, within, length-drop place text)
+not_ended : {I : Type 0} (steps : I → Option ℕ → I → Type 0) (s t : I) (text : List ℕ) (index count : ℕ) → Spells steps s (drop index text)
+    → steps s None t → index < count → count ≤ length text → ⊥
+not_ended steps s t text index count h step inside within =
+    let none = ap (λ (w : List ℕ). length w) (Spells-end steps s t (drop index text) step h) in
+    omega (arith, none, inside, within, length-drop index text)
 
-one_further : {I : Type 0} (steps : I → Option ℕ → I → Type 0) (s t : I) (text : List ℕ) (place c : ℕ) → Spells steps s (drop place text)
-    → steps s (Some c) t → Spells steps t (drop (place + 1) text)
-one_further steps s t text place c h step =
-    let next = Spells-next steps s t c (drop place text) step h in
-    let rest : drop 1 (drop place text) ≡ next.0 = ap (λ (w : List ℕ). drop 1 w) next.1 in
-    subst (λ (w : List ℕ). Spells steps t w) (sym rest ∙ drop-drop 1 place text) next.2
+one_further : {I : Type 0} (steps : I → Option ℕ → I → Type 0) (s t : I) (text : List ℕ) (index c : ℕ) → Spells steps s (drop index text)
+    → steps s (Some c) t → Spells steps t (drop (index + 1) text)
+one_further steps s t text index c h step =
+    let next = Spells-next steps s t c (drop index text) step h in
+    let rest : drop 1 (drop index text) ≡ next.0 = ap (λ (w : List ℕ). drop 1 w) next.1 in
+    subst (λ (w : List ℕ). Spells steps t w) (sym rest ∙ drop-drop 1 index text) next.2
 
 pub loop-init : goal.loop-init
 loop-init g c = λ text h. h

@@ -4,7 +4,7 @@ ghost use Rattle.std.specs.Prelude.{◌≡◌, ◌≤◌, ◌⊎◌, IfOk, drop,
 ghost use Rattle.icu_normalizer_core.specs.Decoding.{latin1_chars, utf16_chars, utf8_chars};
 
 use super::CollatorBorrowed;
-use crate::compare::{common_place, compare_texts};
+use crate::compare::{common_start, compare_texts};
 use crate::encodings::{Latin1Text, Utf8Text, Utf16Text};
 use std::alloc::{AllocError, Global};
 use std::cmp::Ordering;
@@ -12,9 +12,9 @@ use std::cmp::Ordering;
 impl<'d> CollatorBorrowed<'d> {
     ghost use Rattle.icu_collator.specs.Collators.{borrowed_collation, borrowed_options};
     ghost use Rattle.icu_collator.specs.Order.{collation_order};
-    ghost use Rattle.icu_collator.specs.ReadingPlaces.{MaySkip, StandsSafely};
+    ghost use Rattle.icu_collator.specs.ReadingStarts.{MaySkip, StandsSafely};
 
-    /// The order of two texts. Fails only when out of memory.
+    /// The order of two texts. Fails only if memory is refused.
     pub fn compare(&self, alloc: Global, left: &str, right: &str) -> Result<Ordering, AllocError>
         ensures { IfOk result (λ answer. answer ≡ collation_order (borrowed_collation self.now) (borrowed_options self.now) (utf8_chars left.now) (utf8_chars right.now)) }
     {
@@ -23,7 +23,7 @@ impl<'d> CollatorBorrowed<'d> {
     }
 
     /// The order of two texts in UTF-8. Bytes that are no character count as U+FFFD, one for each maximal subpart, as
-    /// `decode_utf8` reads them. Fails only when out of memory.
+    /// `decode_utf8` reads them. Fails only if memory is refused.
     pub fn compare_utf8(
         &self,
         alloc: Global,
@@ -38,7 +38,8 @@ impl<'d> CollatorBorrowed<'d> {
         Ok(answer)
     }
 
-    /// The order of two texts in UTF-16. A surrogate without its partner counts as U+FFFD. Fails only when out of memory.
+    /// The order of two texts in UTF-16. A surrogate without its partner counts as U+FFFD. Fails only if memory is
+    /// refused.
     pub fn compare_utf16(
         &self,
         alloc: Global,
@@ -53,7 +54,7 @@ impl<'d> CollatorBorrowed<'d> {
         Ok(answer)
     }
 
-    /// The order of two texts in Latin-1: each byte is a character. Fails only when out of memory.
+    /// The order of two texts in Latin-1: each byte is a character. Fails only if memory is refused.
     pub fn compare_latin1(
         &self,
         alloc: Global,
@@ -69,7 +70,7 @@ impl<'d> CollatorBorrowed<'d> {
     }
 
     /// The order of a text in Latin-1 and one in UTF-16. A surrogate without its partner counts as U+FFFD. Fails only
-    /// when out of memory.
+    /// if memory is refused.
     pub fn compare_latin1_utf16(
         &self,
         alloc: Global,
@@ -84,11 +85,11 @@ impl<'d> CollatorBorrowed<'d> {
         Ok(answer)
     }
 
-    /// The place from which `compare` reads two texts, where the first characters that differ don't decide alone: in
+    /// The index from which `compare` reads two texts, where the first characters that differ don't decide alone: in
     /// characters of each, not bytes. What stands before it is the same in both, and isn't read. It is 0, their
-    /// beginning, or the place of a character that isn't unsafe; always 0 where secondaries are read backward, a dot
+    /// beginning, or the index of a character that isn't unsafe; always 0 where secondaries are read backward, a dot
     /// above may be dropped, elements are shifted, or numbers are sought. No memory is taken.
-    pub fn reading_place(&self, left: &str, right: &str) -> usize
+    pub fn reading_start(&self, left: &str, right: &str) -> usize
         ensures left_reaches { result ≤ length (utf8_chars left.now) }
         ensures right_reaches { result ≤ length (utf8_chars right.now) }
         ensures common { take result (utf8_chars left.now) ≡ take result (utf8_chars right.now) }
@@ -103,6 +104,6 @@ impl<'d> CollatorBorrowed<'d> {
         let rights = Utf8Text {
             bytes: right.as_bytes(),
         };
-        common_place(self.tables, &self.options, lefts, rights)
+        common_start(self.tables, &self.options, lefts, rights)
     }
 }

@@ -1,4 +1,4 @@
-//! Short primaries: those of two bytes. Behind no run those of a plain lead follow one another, and in a run those of its lead,
+//! Short primaries: those of two bytes. After no run those of a plain lead follow one another, and in a run those of its lead,
 //! without their first bytes.
 
 ghost use Rattle.std.specs.Prelude.{◌≡◌, ◌<◌, ◌≤◌, ◌/◌, ◌^◌, ◌∷◌, ◌++◌, [], All, bit_and, flat_map, length, true};
@@ -23,9 +23,9 @@ pub(in crate::key_bytes) fn is_short(primary: u32, lead: u16) -> bool
 }
 
 impl KeyBytes {
-    /// Appends the short primaries with this lead of the elements from a place on, each without so many of its first bytes, up to
+    /// Appends the short primaries with this lead of the elements from an index on, each without so many of its first bytes, up to
     /// the first element with another primary, or with one below this end; or as many as there is room for without memory. Answers
-    /// the place behind them.
+    /// the index after them.
     #[inline(always)]
     pub(crate) fn put_short_primaries(
         &mut self,
@@ -44,9 +44,9 @@ impl KeyBytes {
     {
         // (kept apart from the key while the loop runs, so that it isn't stored for each element)
         let mut length = self.length;
-        let mut place = from;
-        'elements: while place < elements.len() && length <= ROOM - 2 {
-            let primary = elements[place].primary();
+        let mut index = from;
+        'elements: while index < elements.len() && length <= ROOM - 2 {
+            let primary = elements[index].primary();
             if primary != 0 {
                 if primary < variable_end || !is_short(primary, lead) {
                     break 'elements;
@@ -55,9 +55,9 @@ impl KeyBytes {
                 self.array[length + 1 - left_out] = ((primary >> 16) & 0xff) as u8;
                 length = length + 2 - left_out;
             }
-            place += 1;
+            index += 1;
         }
         self.length = length;
-        place
+        index
     }
 }

@@ -34,8 +34,8 @@ pub(super) fn gather_word(words: &mut Vec<u32>, word: u32) -> Result<(), AllocEr
 fn gather_listed(words: &mut Vec<u32>, list: &Vec<((), i32)>) -> Result<(), AllocError>
     ensures { OnOk result (Grows (λ word. (entry : ⊤ × ℤ) × Contains list.now.items entry × (cast_unsigned w32 entry.1 ≡ word)) words.old.items words.new.items) }
 {
-    for place in 0..list.len() {
-        let value = list[place].1;
+    for index in 0..list.len() {
+        let value = list[index].1;
         gather_word(words, value.cast_unsigned())?;
     }
     Ok(())
@@ -110,7 +110,7 @@ fn gather_at(
     Ok(())
 }
 
-/// Where a walk over all codes goes on behind this one: where it is a character, behind those that have its word.
+/// Where a walk over all codes goes on after this one: where it is a character, after those that have its word.
 fn next_code(source: &CollationData<'_>, code: u32) -> u32
     requires { code < 0x11_0000 }
     ensures onward { code < result }
@@ -145,8 +145,8 @@ pub(super) fn gather_diacritics(
     ensures { OnOk result (Grows (IsDiacriticWord tables.now) words.old.items words.new.items) }
 {
     let secondaries = &tables.diacritics.secondaries;
-    for place in 0..secondaries.len() {
-        gather_word(words, secondary_word(secondaries.at(place)))?;
+    for index in 0..secondaries.len() {
+        gather_word(words, secondary_word(secondaries.at(index)))?;
     }
     Ok(())
 }
@@ -159,8 +159,8 @@ pub(super) fn gather_jamo(
     ensures { OnOk result (Grows (Contains tables.now.jamo.ce32s) words.old.items words.new.items) }
 {
     let ce32s = &tables.jamo.ce32s;
-    for place in 0..ce32s.len() {
-        gather_word(words, ce32s.at(place))?;
+    for index in 0..ce32s.len() {
+        gather_word(words, ce32s.at(index))?;
     }
     Ok(())
 }

@@ -91,7 +91,7 @@ fn gather(alloc: Global, tables: &CollationTables<'_>) -> Result<Gathered, Alloc
 }
 
 /// Whether no weight that tables spell begins another one on its level, and no primary but of three bytes stands under
-/// a lead of ranges. Fails only when out of memory.
+/// a lead of ranges. Fails only if memory is refused.
 pub(crate) fn are_weights_apart(
     alloc: Global,
     tables: &CollationTables<'_>,

@@ -36,8 +36,8 @@ pub(super) fn gather_leads(
 ) -> Result<(), AllocError>
     ensures { OnOk result (Grows (HaveLead source.now words.now) leads.old.items leads.new.items) }
 {
-    for place in 0..words.len() {
-        gather_lead(leads, source, words[place])?;
+    for index in 0..words.len() {
+        gather_lead(leads, source, words[index])?;
     }
     Ok(())
 }
@@ -54,8 +54,8 @@ fn is_beside_lead(lead: u32, element: CollationElement) -> bool
 fn are_beside_lead(lead: u32, elements: &[CollationElement]) -> bool
     ensures { result ≡ list_all (is_beside_lead lead) (unpacked elements.now) }
 {
-    for place in 0..elements.len() {
-        if !is_beside_lead(lead, elements[place]) {
+    for index in 0..elements.len() {
+        if !is_beside_lead(lead, elements[index]) {
             return false;
         }
     }
@@ -66,8 +66,8 @@ fn are_beside_lead(lead: u32, elements: &[CollationElement]) -> bool
 pub(super) fn are_beside(leads: &[u32], elements: &[CollationElement]) -> bool
     ensures { result ≡ list_all (λ lead. list_all (is_beside_lead lead) (unpacked elements.now)) leads.now }
 {
-    for place in 0..leads.len() {
-        if !are_beside_lead(leads[place], elements) {
+    for index in 0..leads.len() {
+        if !are_beside_lead(leads[index], elements) {
             return false;
         }
     }

@@ -44,13 +44,13 @@ fn weights_on(
     ensures { IfOk result (λ weights. weights.items ≡ map (weight_on level) (unpacked elements.now)) }
 {
     let mut weights = Vec::new(alloc);
-    for place in 0..elements.len() {
-        weights.push(weight_on(level, elements[place]))?;
+    for index in 0..elements.len() {
+        weights.push(weight_on(level, elements[index]))?;
     }
     Ok(weights)
 }
 
-/// Whether no weight of elements begins another one on a level. Fails only when out of memory.
+/// Whether no weight of elements begins another one on a level. Fails only if memory is refused.
 fn are_apart_on(
     alloc: Global,
     level: Level,
@@ -70,7 +70,7 @@ fn are_all(primaries: bool, secondaries: bool, tertiaries: bool) -> bool
     primaries && secondaries && tertiaries
 }
 
-/// Whether no weight of elements begins another one on its level. Fails only when out of memory.
+/// Whether no weight of elements begins another one on its level. Fails only if memory is refused.
 pub(super) fn are_apart(alloc: Global, elements: &[CollationElement]) -> Result<bool, AllocError>
     ensures { IfOk result (λ yes. IsTrue yes ↔ ((d e : Element) → Contains (unpacked elements.now) d → Contains (unpacked elements.now) e → are_apart_elements d e ≡ true)) }
 {

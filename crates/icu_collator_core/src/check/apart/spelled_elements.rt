@@ -19,8 +19,8 @@ pub(super) fn gather_spelled(
 ) -> Result<(), AllocError>
     ensures { OnOk result (Grows (AreSpelling (pools_of source.now) words.now) (unpacked elements.old.items) (unpacked elements.new.items)) }
 {
-    for place in 0..words.len() {
-        push_elements(source, words[place], elements)?;
+    for index in 0..words.len() {
+        push_elements(source, words[index], elements)?;
     }
     Ok(())
 }

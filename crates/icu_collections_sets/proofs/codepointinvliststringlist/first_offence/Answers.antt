@@ -5,16 +5,16 @@ use Rattle.icu_collections_sets.proofs.texts.StringListLemmas.{AreStringsUpTo-no
 use Rattle.icu_collections_sets.proofs.codepointinvliststringlist.first_offence.Goals as goal
 
 pub returns-in-Some : goal.returns-in-Some
-returns-in-Some c = (omega arith, c.loop-place.invariant, c.in-Some.ensures)
+returns-in-Some c = (omega arith, c.loop-index.invariant, c.in-Some.ensures)
 
-pub loop-place-init : goal.loop-place-init
-loop-place-init c = AreStringsUpTo-none _
+pub loop-index-init : goal.loop-index-init
+loop-index-init c = AreStringsUpTo-none _
 
-pub loop-place-preserved : goal.loop-place-preserved
-loop-place-preserved c = AreStringsUpTo-more _ c.loop-place.place _ refl c.loop-place.invariant c.in_default.ensures
+pub loop-index-preserved : goal.loop-index-preserved
+loop-index-preserved c = AreStringsUpTo-more _ c.loop-index.index _ refl c.loop-index.invariant c.in_default.ensures
 
 pub returns : goal.returns
 returns c =
     let texts = map string_bytes c.args.strings.now in
-    let end : c.loop-place.place ≡ length texts = omega (arith, length-map c.args.strings.now string_bytes) in
-    subst (AreStringsUpTo texts) end c.loop-place.invariant
+    let end : c.loop-index.index ≡ length texts = omega (arith, length-map c.args.strings.now string_bytes) in
+    subst (AreStringsUpTo texts) end c.loop-index.invariant

@@ -4,7 +4,7 @@ ghost use Rattle.icu_collections_sets.specs.CodePoints.{Rises, IsInversionList, 
 ghost use Rattle.icu_collections_sets.specs.Operations.{IsIntersection, IsSymmetricDifference};
 ghost use Rattle.icu_collections_sets.specs.SetEdits.{IsSetTo, IsToggled, is_within};
 
-use super::{CodePointInversionListBuilder, place_of};
+use super::{CodePointInversionListBuilder, index_of};
 use std::alloc::AllocError;
 
 /// Puts an edge where there is none, or takes the one that is there: from there on each code point
@@ -19,11 +19,11 @@ fn toggle(edges: &mut Vec<u32>, edge: u32)
     ensures len { vec_len edges.new ≤ vec_len edges.old + 1 }
     ensures capacity { vec_capacity edges.new ≡ vec_capacity edges.old }
 {
-    let place = place_of(edges.as_slice(), edge);
-    if place < edges.len() && edges[place] == edge {
-        let _ = edges.remove(place);
+    let index = index_of(edges.as_slice(), edge);
+    if index < edges.len() && edges[index] == edge {
+        let _ = edges.remove(index);
     } else {
-        match edges.insert(place, edge) {
+        match edges.insert(index, edge) {
             Ok(()) => (),
             Err(_) => unreachable!(),
         }
@@ -37,9 +37,9 @@ fn cut(edges: &mut Vec<u32>, till: u32)
     ensures list { IsInversionList edges.new.items }
     ensures cut { IsSetTo false (is_within till 0x110000) edges.old.items edges.new.items }
 {
-    let place = place_of(edges.as_slice(), till);
-    edges.truncate(place);
-    if place % 2 == 1 {
+    let index = index_of(edges.as_slice(), till);
+    edges.truncate(index);
+    if index % 2 == 1 {
         match edges.push(till) {
             Ok(()) => (),
             Err(_) => unreachable!(),

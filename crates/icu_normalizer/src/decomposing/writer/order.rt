@@ -1,4 +1,4 @@
-//! Places in a list of characters that are in order.
+//! Indices in a list of characters that are in order.
 
 ghost use Rattle.std.specs.Prelude.{◌≡◌, ℕ, ◌+◌, ◌<◌, ◌≤◌, ◌∷◌, ◌++◌, true, take, drop, length, ltb};
 ghost use Rattle.std.specs.List.{list_all};
@@ -7,36 +7,36 @@ ghost use Rattle.icu_normalizer.specs.Marks.{stands_to};
 
 use icu_normalizer_core::decomposition::FormData;
 
-/// The place behind the last character that is of no class above this one.
-pub(super) fn place_of(basis: FormData<'_>, list: &[char], class: u8) -> usize
+/// The index after the last character that is of no class above this one.
+pub(super) fn index_for(basis: FormData<'_>, list: &[char], class: u8) -> usize
     ensures within { result ≤ length list.now }
     ensures above { list_all (λ d. ltb class ((form_meaning basis.entry).class d)) (drop result list.now) ≡ true }
     ensures behind { (last : ℕ) → stands_to (form_meaning basis.entry).class 0 last (take result list.now) ≡ true → last ≤ class }
 {
-    let mut place = list.len();
-    while place > 0 {
-        if basis.class(list[place - 1]) <= class {
-            return place;
+    let mut index = list.len();
+    while index > 0 {
+        if basis.class(list[index - 1]) <= class {
+            return index;
         }
-        place -= 1;
+        index -= 1;
     }
     0
 }
 
-/// Puts a character in a place among the first `count` of a list, and those behind it by one further on.
-pub(super) fn insert_at(list: &mut [char; 64], place: usize, count: usize, c: char)
-    requires within { place ≤ count }
+/// Puts a character in an index among the first `count` of a list, and those after it by one further on.
+pub(super) fn insert_at(list: &mut [char; 64], index: usize, count: usize, c: char)
+    requires within { index ≤ count }
     requires room { count < 64 }
-    ensures { take (count + 1) list.new ≡ take place list.old ++ c ∷ drop place (take count list.old) }
+    ensures { take (count + 1) list.new ≡ take index list.old ++ c ∷ drop index (take count list.old) }
 {
-    list.copy_within(place..count, place + 1);
-    list[place] = c;
+    list.copy_within(index..count, index + 1);
+    list[index] = c;
 }
 
-/// The class of the last of some characters, once one of this class was put in a place among them.
-pub(super) fn last_class(place: usize, count: usize, class: u8, last: u8) -> u8
-    ensures behind { place ≡ count → result ≡ class }
-    ensures among { place < count → result ≡ last }
+/// The class of the last of some characters, once one of this class was put in an index among them.
+pub(super) fn last_class(index: usize, count: usize, class: u8, last: u8) -> u8
+    ensures behind { index ≡ count → result ≡ class }
+    ensures among { index < count → result ≡ last }
 {
-    if place == count { class } else { last }
+    if index == count { class } else { last }
 }

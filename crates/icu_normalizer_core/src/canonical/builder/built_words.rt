@@ -28,8 +28,8 @@ pub(super) fn are_classes(classes: &Classes<'_>, characters: &[char]) -> bool
 pub(super) fn are_starters(classes: &Classes<'_>, steps: &PackedVec<'_, u32>) -> bool
     ensures { IsTrue result ↔ AreStarters classes.now.given.now steps.now }
 {
-    for place in 0..steps.len() / 3 {
-        if classes.class_with(steps.at(3 * place)) != 0 {
+    for index in 0..steps.len() / 3 {
+        if classes.class_with(steps.at(3 * index)) != 0 {
             return false;
         }
     }
@@ -70,7 +70,7 @@ pub(super) fn word_of(
     ensures syllable { result ≡ 0 → is_syllable c ≡ false }
 {
     match triple_of(steps, c) {
-        Some(place) => lists.words[place],
+        Some(index) => lists.words[index],
         None => unlisted_word(c, classes.class_with(c)),
     }
 }

@@ -31,7 +31,7 @@ impl Drop for Classes<'_> {
 }
 
 impl<'g> Classes<'g> {
-    /// The classes that are given. The only error is want of memory.
+    /// The classes that are given. Fails only if memory is refused.
     pub(super) fn new(alloc: Global, given: &'g [GivenClass]) -> Result<Classes<'g>, AllocError>
         ensures { IfOk result (λ classes. classes.given.now ≡ given.now) }
     {
@@ -57,7 +57,7 @@ impl<'g> Classes<'g> {
     }
 }
 
-/// Notes a class as the first of its character, unless another one is. The only error is want of memory.
+/// Notes a class as the first of its character, unless another one is. Fails only if memory is refused.
 fn note_class(firsts: &mut BTreeMap<u32, u8>, given: GivenClass) -> Result<(), AllocError>
     ensures { OnOk result ((c : ℕ) → get nat_cmp firsts.new c ≡ option_or (get nat_cmp firsts.old c) (cond (given.character == c) (Some given.class) None)) }
 {
@@ -68,7 +68,7 @@ fn note_class(firsts: &mut BTreeMap<u32, u8>, given: GivenClass) -> Result<(), A
     Ok(())
 }
 
-/// The first class of each character. The only error is want of memory.
+/// The first class of each character. Fails only if memory is refused.
 fn first_classes(alloc: Global, classes: &[GivenClass]) -> Result<BTreeMap<u32, u8>, AllocError>
     ensures { IfOk result (HasFirstClasses classes.now) }
 {

@@ -18,7 +18,7 @@ ghost use Rattle.icu_normalizer_core.specs.Named.{block_count, narrow_block, wid
 ghost use Rattle.icu_normalizer_core.specs.SettledMappings.{AreFullWords, AreOthersUnnamed, IsSound, KeepOneMapping, LacksWords, steps_in};
 
 use super::compatibility_words::CompatibilityWords;
-use super::mappings::{Mappings, are_on_starters, first_places};
+use super::mappings::{Mappings, are_on_starters, first_indices};
 use super::names::all_characters_of;
 use super::one_mapping::{are_apart, have_one_compatibility};
 use super::trie::trie_of;
@@ -29,7 +29,7 @@ use crate::compatibility::check::first_fault;
 use icu_packed_vector::PackedVec;
 use std::alloc::{AllocError, Global};
 
-/// Words as tables. The only error is want of memory.
+/// Words as tables. Fails only if memory is refused.
 fn packed(alloc: Global, made: &CompatibilityWords) -> Result<NfkdTables<'static>, AllocError>
     requires wide { different_blocks (λ n. n) 512 made.now.words.values ≤ 800 }
     requires narrow { upper_blocks (λ n. n) made.now.words.values ≤ 12000 }
@@ -48,7 +48,7 @@ fn packed(alloc: Global, made: &CompatibilityWords) -> Result<NfkdTables<'static
 }
 
 /// The tables of the words of characters. `Rules` where steps from one don't end or leave more than eight characters, or
-/// what they leave takes more places than words name.
+/// what they leave takes more slots than words name.
 fn word_tables(
     alloc: Global,
     over: Mappings<'_>,
@@ -63,9 +63,9 @@ fn word_tables(
     ensures plain { IfOk result (λ made. HasPlainWords made.trie) }
     ensures refused { IfErr result (λ e. (e ≡ Memory) ⊎ ((e ≡ Rules) × LacksWords (steps_in over.entry) named.entry.now)) }
 {
-    let places = first_places(alloc, over.given)?;
-    let settled = over.settle(alloc, &places)?;
-    let made = match over.full_words(alloc, &places, settled.as_slice(), named) {
+    let indices = first_indices(alloc, over.given)?;
+    let settled = over.settle(alloc, &indices)?;
+    let made = match over.full_words(alloc, &indices, settled.as_slice(), named) {
         Ok(made) => made,
         Err(error) => return Err(error),
     };
@@ -73,8 +73,8 @@ fn word_tables(
     Ok(tables)
 }
 
-/// Whether each character that is given has one mapping, of one kind, and stands on a starter, what is built in aside. The
-/// only error is want of memory.
+/// Whether each character that is given has one mapping, of one kind, and stands on a starter, what is built in aside.
+/// Fails only if memory is refused.
 fn keep_mapping_rule(
     alloc: Global,
     mappings: &[GivenMapping],

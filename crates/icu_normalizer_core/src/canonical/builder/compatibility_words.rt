@@ -7,7 +7,7 @@ ghost use Rattle.icu_normalizer_core.specs.declared.canonical.builder.CanonicalD
 ghost use Rattle.icu_normalizer_core.specs.BuiltIn.{built_in_step, is_syllable};
 ghost use Rattle.icu_normalizer_core.specs.Canonical.{IsFree};
 ghost use Rattle.icu_normalizer_core.specs.CanonicalMeaning.{meaning};
-ghost use Rattle.icu_normalizer_core.specs.FirstMappings.{HasFirstPlaces};
+ghost use Rattle.icu_normalizer_core.specs.FirstMappings.{HasFirstIndices};
 ghost use Rattle.icu_normalizer_core.specs.Settled.{left_items};
 ghost use Rattle.icu_normalizer_core.specs.SettledMappings.{AreMappingStarts, AreRightSoFar, IsAllSettled, IsSound, KeepsFullWord, LacksWords, StartsLeft, full_room, steps_in};
 
@@ -37,8 +37,8 @@ fn is_unlisted(c: char, left: &Left) -> bool
 }
 
 impl Mappings<'_> {
-    /// The word of a character of which steps leave a list: the list's, unless its mapping is built in, or it has none. The
-    /// only error is want of memory.
+    /// The word of a character of which steps leave a list: the list's, unless its mapping is built in, or it has none.
+    /// Fails only if memory is refused.
     fn full_word(self, scalars24: &mut Vec<char>, c: char, left: &Left) -> Result<u32, AllocError>
         requires sound { IsSound self }
         requires starts { StartsLeft (steps_in self) (c ∷ []) left.now }
@@ -56,16 +56,16 @@ impl Mappings<'_> {
     }
 
     /// The words of characters. `Rules` where steps from one don't end or leave more than eight characters, or what they
-    /// leave takes more places than words name.
+    /// leave takes more slots than words name.
     pub(super) fn full_words(
         self,
         alloc: Global,
-        places: &BTreeMap<char, usize>,
+        indices: &BTreeMap<char, usize>,
         settled: &[Option<Left>],
         named: &[char],
     ) -> Result<CompatibilityWords, CanonicalDataBuildError>
         requires sound { IsSound self }
-        requires places { HasFirstPlaces self.given.now places.now }
+        requires indices { HasFirstIndices self.given.now indices.now }
         requires starts { AreMappingStarts (steps_in self) self.given.now settled.now }
         requires done { IsAllSettled (meaning self.tables.now).full self.given.now settled.now }
         requires scalars { All IsScalar named.now }
@@ -75,7 +75,7 @@ impl Mappings<'_> {
         let mut words = unnamed_words(alloc)?;
         let mut scalars24 = Vec::new(alloc);
         for c in named {
-            let Some(left) = self.left_of(places, settled, *c) else {
+            let Some(left) = self.left_of(indices, settled, *c) else {
                 return Err(CanonicalDataBuildError::Rules);
             };
             if left.characters[..left.count].len() > 8 {

@@ -3,11 +3,11 @@
 ghost use Rattle.std.specs.Prelude.{◌≡◌, ◌++◌, ◌+◌, ℕ, ◌^◌, ◌-◌, ◌<◌, ◌≤◌, List, length, false, MatchOption, OnOk, IfOk, All};
 ghost use Rattle.std.specs.Char.{IsScalar};
 ghost use Rattle.icu_normalizer_core.specs.ListRoom.{is_stated};
-ghost use Rattle.icu_normalizer_core.specs.ListWords.{KeepsStating, StatesList, places_of};
+ghost use Rattle.icu_normalizer_core.specs.ListWords.{KeepsStating, StatesList, slots_of};
 
 use std::alloc::AllocError;
 
-/// A word names a place below this.
+/// A word names an index below this.
 pub(super) const PLACE_LIMIT: usize = 0x3fff;
 
 /// The word of a list that it states by itself, of one character or of two; `None` where the characters have to stand
@@ -23,7 +23,7 @@ fn stated_word(list: &[u32]) -> Option<u32>
     }
 }
 
-/// Puts characters behind the others. The only error is want of memory.
+/// Puts characters after the others. Fails only if memory is refused.
 fn append(scalars24: &mut Vec<char>, list: &[u32]) -> Result<(), AllocError>
     requires { All IsScalar list.now }
     ensures { OnOk result (scalars24.new.items ≡ scalars24.old.items ++ list.now) }
@@ -34,7 +34,7 @@ fn append(scalars24: &mut Vec<char>, list: &[u32]) -> Result<(), AllocError>
     Ok(())
 }
 
-/// The word of a list, whose characters are put behind the others. The only error is want of memory.
+/// The word of a list, whose characters are put after the others. Fails only if memory is refused.
 fn listed_word(scalars24: &mut Vec<char>, base: usize, list: &[u32]) -> Result<u32, AllocError>
     requires scalars { All IsScalar list.now }
     requires some { 0 < length list.now }
@@ -43,14 +43,14 @@ fn listed_word(scalars24: &mut Vec<char>, base: usize, list: &[u32]) -> Result<u
     ensures grows { OnOk result (scalars24.new.items ≡ scalars24.old.items ++ list.now) }
     ensures states { IfOk result (λ word. (scalars16 : List ℕ) → length scalars16 ≡ base → KeepsStating scalars16 scalars24.new.items word list.now) }
 {
-    let place = base + scalars24.as_slice().len();
+    let index = base + scalars24.as_slice().len();
     append(scalars24, list)?;
-    let word = (place as u32 + 1) * 0x1_0000 + (list.len() as u32 - 1);
+    let word = (index as u32 + 1) * 0x1_0000 + (list.len() as u32 - 1);
     Ok(word)
 }
 
-/// The word of a list of at most eight characters, which are put behind the others where the word can't state them by
-/// itself. Places in `scalars24` count from the end of `scalars16`, the base. The only error is want of memory.
+/// The word of a list of at most eight characters, which are put after the others where the word can't state them by
+/// itself. Indices in `scalars24` count from the end of `scalars16`, the base. Fails only if memory is refused.
 pub(super) fn list_word(
     scalars24: &mut Vec<char>,
     base: usize,
@@ -60,7 +60,7 @@ pub(super) fn list_word(
     requires some { 0 < length list.now }
     requires few { length list.now ≤ 8 }
     requires room { base + length scalars24.old.items < 2 ^ 14 - 1 }
-    ensures grows { OnOk result ((more : List ℕ) × (scalars24.new.items ≡ scalars24.old.items ++ more) × (length more ≤ places_of list.now)) }
+    ensures grows { OnOk result ((more : List ℕ) × (scalars24.new.items ≡ scalars24.old.items ++ more) × (length more ≤ slots_of list.now)) }
     ensures states { IfOk result (λ word. (scalars16 : List ℕ) → length scalars16 ≡ base → KeepsStating scalars16 scalars24.new.items word list.now) }
 {
     if let Some(word) = stated_word(list) {

@@ -14,13 +14,13 @@ use icu_packed_vector::PackedVec;
 use std::alloc::Global;
 
 /// The words of what mapping steps leave of mapped characters. `Rules` where steps don't end or leave more than eight
-/// characters, or the lists take more places than words name.
+/// characters, or the lists take more slots than words name.
 pub(super) fn full_lists(
     alloc: Global,
     steps: &PackedVec<'_, u32>,
 ) -> Result<ListWords, CanonicalDataBuildError>
     requires triples { AreTriples steps.now }
-    requires free { (place : ℕ) → place < length steps.now / 3 → IsFree (key_at steps.now place) }
+    requires free { (index : ℕ) → index < length steps.now / 3 → IsFree (key_at steps.now index) }
     ensures words { IfOk result (AreListWords steps.now) }
     ensures refused { IfErr result (λ e. (e ≡ Memory) ⊎ ((e ≡ Rules) × (HasBadEnd steps.now ⊎ HasLongLists steps.now))) }
 {

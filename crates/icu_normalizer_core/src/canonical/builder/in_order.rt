@@ -9,7 +9,7 @@ ghost use Rattle.icu_normalizer_core.specs.InOrder.{AreFirstsInOrder, HasFirsts}
 use std::alloc::{AllocError, Global};
 use std::collections::BTreeMap;
 
-/// Notes a number as the first of its key, unless another one is. The only error is want of memory.
+/// Notes a number as the first of its key, unless another one is. Fails only if memory is refused.
 fn note_first(firsts: &mut BTreeMap<u64, u64>, n: u64, divisor: u64) -> Result<(), AllocError>
     requires { 0 < divisor }
     ensures noted { OnOk result ((key : ℕ) → get nat_cmp firsts.new key ≡ option_or (get nat_cmp firsts.old key) (cond (n / divisor == key) (Some n) None)) }
@@ -22,7 +22,7 @@ fn note_first(firsts: &mut BTreeMap<u64, u64>, n: u64, divisor: u64) -> Result<(
     Ok(())
 }
 
-/// The first number of each key. The only error is want of memory.
+/// The first number of each key. Fails only if memory is refused.
 fn first_numbers(
     alloc: Global,
     numbers: &[u64],
@@ -39,7 +39,7 @@ fn first_numbers(
     Ok(firsts)
 }
 
-/// The values of a map, in the order of their keys. The only error is want of memory.
+/// The values of a map, in the order of their keys. Fails only if memory is refused.
 fn values_of(alloc: Global, map: &BTreeMap<u64, u64>) -> Result<Vec<u64>, AllocError>
     ensures values { IfOk result (λ list. list.items ≡ values map.now) }
     ensures ordered { IsOrdered nat_cmp map.now }
@@ -47,7 +47,7 @@ fn values_of(alloc: Global, map: &BTreeMap<u64, u64>) -> Result<Vec<u64>, AllocE
     map.values().copied().collect(alloc)
 }
 
-/// The first number of each key, in the order of the keys. The only error is want of memory.
+/// The first number of each key, in the order of the keys. Fails only if memory is refused.
 pub(super) fn in_order(alloc: Global, numbers: &[u64], divisor: u64) -> Result<Vec<u64>, AllocError>
     requires { 1 < divisor }
     ensures { IfOk result (λ sorted. AreFirstsInOrder divisor numbers.now sorted.items) }

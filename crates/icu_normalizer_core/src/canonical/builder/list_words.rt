@@ -17,7 +17,7 @@ pub(super) struct ListWords {
 }
 
 /// The words of the lists that are settled. `Rules` where one isn't settled or has over eight characters, or they take
-/// more places than words name.
+/// more indices than words name.
 pub(super) fn list_words(
     alloc: Global,
     settled: &[Option<Left>],
@@ -28,8 +28,8 @@ pub(super) fn list_words(
 {
     let mut scalars24 = Vec::new(alloc);
     let mut words = Vec::new(alloc);
-    for place in 0..settled.len() {
-        let Some(left) = settled[place] else {
+    for index in 0..settled.len() {
+        let Some(left) = settled[index] else {
             return Err(CanonicalDataBuildError::Rules);
         };
         let list = &left.characters[..left.count];

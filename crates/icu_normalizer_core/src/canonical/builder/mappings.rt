@@ -6,7 +6,7 @@ ghost use Rattle.std.specs.Option.{option_or};
 ghost use Rattle.std.specs.Ordering.{nat_cmp};
 ghost use Rattle.icu_normalizer_core.specs.BuiltIn.{is_built_in};
 ghost use Rattle.icu_normalizer_core.specs.CanonicalMeaning.{meaning};
-ghost use Rattle.icu_normalizer_core.specs.FirstMappings.{HasFirstPlaces};
+ghost use Rattle.icu_normalizer_core.specs.FirstMappings.{HasFirstIndices};
 ghost use Rattle.icu_normalizer_core.specs.SettledMappings.{AreOnStarters};
 
 use super::GivenCompatibility;
@@ -34,30 +34,30 @@ pub(super) fn are_on_starters(tables: &CanonicalTables<'_>, given: &[GivenCompat
     true
 }
 
-/// The place of the first mapping of each character. The only error is want of memory.
-pub(super) fn first_places(
+/// The index of the first mapping of each character. Fails only if memory is refused.
+pub(super) fn first_indices(
     alloc: Global,
     given: &[GivenCompatibility],
 ) -> Result<BTreeMap<char, usize>, AllocError>
-    ensures { IfOk result (HasFirstPlaces given.now) }
+    ensures { IfOk result (HasFirstIndices given.now) }
 {
-    let mut places = BTreeMap::new(alloc);
-    for place in 0..given.len() {
-        note_place(&mut places, given[place].character, place)?;
+    let mut indices = BTreeMap::new(alloc);
+    for index in 0..given.len() {
+        note_index(&mut indices, given[index].character, index)?;
     }
-    Ok(places)
+    Ok(indices)
 }
 
-/// Notes a place as that of the first mapping of a character, unless another one is. The only error is want of memory.
-fn note_place(
-    places: &mut BTreeMap<char, usize>,
+/// Notes an index as that of the first mapping of a character, unless another one is. Fails only if memory is refused.
+fn note_index(
+    indices: &mut BTreeMap<char, usize>,
     character: char,
-    place: usize,
+    index: usize,
 ) -> Result<(), AllocError>
-    ensures { OnOk result ((c : ℕ) → get nat_cmp places.new c ≡ option_or (get nat_cmp places.old c) (cond (character == c) (Some place) None)) }
+    ensures { OnOk result ((c : ℕ) → get nat_cmp indices.new c ≡ option_or (get nat_cmp indices.old c) (cond (character == c) (Some index) None)) }
 {
-    if places.get(&character).is_none() {
-        places.insert(character, place)?;
+    if indices.get(&character).is_none() {
+        indices.insert(character, index)?;
     }
     Ok(())
 }

@@ -32,7 +32,7 @@ const WIDE_LIMIT: usize = 700;
 
 const NARROW_LIMIT: usize = 11_000;
 
-/// Adds the characters that classes name. The only error is want of memory.
+/// Adds the characters that classes name. Fails only if memory is refused.
 fn add_classed(list: &mut Vec<char>, classes: &[GivenClass]) -> Result<(), AllocError>
     ensures { IfOk result (λ _. list.new.items ≡ list.old.items ++ map (λ g. g.character) classes.now) }
 {
@@ -42,7 +42,7 @@ fn add_classed(list: &mut Vec<char>, classes: &[GivenClass]) -> Result<(), Alloc
     Ok(())
 }
 
-/// Adds the characters that a canonical mapping names. The only error is want of memory.
+/// Adds the characters that a canonical mapping names. Fails only if memory is refused.
 fn add_mapping(list: &mut Vec<char>, given: GivenMapping) -> Result<(), AllocError>
     ensures { IfOk result (λ _. list.new.items ≡ list.old.items ++ given.character ∷ mapping_given given) }
 {
@@ -54,7 +54,7 @@ fn add_mapping(list: &mut Vec<char>, given: GivenMapping) -> Result<(), AllocErr
     Ok(())
 }
 
-/// Adds the characters that canonical mappings name. The only error is want of memory.
+/// Adds the characters that canonical mappings name. Fails only if memory is refused.
 fn add_mapped(list: &mut Vec<char>, mappings: &[GivenMapping]) -> Result<(), AllocError>
     ensures { IfOk result (λ _. list.new.items ≡ list.old.items ++ flat_map (λ g. g.character ∷ mapping_given g) mappings.now) }
 {
@@ -64,7 +64,7 @@ fn add_mapped(list: &mut Vec<char>, mappings: &[GivenMapping]) -> Result<(), All
     Ok(())
 }
 
-/// Adds the characters that compatibility mappings name. The only error is want of memory.
+/// Adds the characters that compatibility mappings name. Fails only if memory is refused.
 fn add_compatible(list: &mut Vec<char>, given: &[GivenCompatibility]) -> Result<(), AllocError>
     ensures { IfOk result (λ _. list.new.items ≡ list.old.items ++ flat_map (λ g. g.character ∷ g.mapping.items) given.now) }
 {
@@ -75,7 +75,7 @@ fn add_compatible(list: &mut Vec<char>, given: &[GivenCompatibility]) -> Result<
     Ok(())
 }
 
-/// The characters that classes and canonical mappings name. The only error is want of memory.
+/// The characters that classes and canonical mappings name. Fails only if memory is refused.
 fn named(
     alloc: Global,
     classes: &[GivenClass],
@@ -89,7 +89,7 @@ fn named(
     Ok(list)
 }
 
-/// The characters that classes and mappings of both kinds name. The only error is want of memory.
+/// The characters that classes and mappings of both kinds name. Fails only if memory is refused.
 fn all_named(
     alloc: Global,
     classes: &[GivenClass],
@@ -103,7 +103,7 @@ fn all_named(
     Ok(list)
 }
 
-/// Adds a character that isn't among those that were seen, which are the list's. The only error is want of memory.
+/// Adds a character that isn't among those that were seen, which are the list's. Fails only if memory is refused.
 fn add_new(list: &mut Vec<char>, seen: &mut BTreeSet<char>, c: char) -> Result<(), AllocError>
     requires scalars { All IsScalar list.old.items }
     requires seen { HasThese seen.old list.old.items }
@@ -144,7 +144,7 @@ fn narrow_block(c: char) -> u32
     (c as u32).saturating_sub(0x1_0000) / 16
 }
 
-/// The aligned block of 512 in which each character stands. The only error is want of memory.
+/// The aligned block of 512 in which each character stands. Fails only if memory is refused.
 fn wide_blocks(alloc: Global, characters: &[char]) -> Result<Vec<u32>, AllocError>
     ensures { IfOk result (λ numbers. numbers.items ≡ map wide_block characters.now) }
 {
@@ -155,7 +155,7 @@ fn wide_blocks(alloc: Global, characters: &[char]) -> Result<Vec<u32>, AllocErro
     Ok(numbers)
 }
 
-/// The aligned block of 16 in which each character stands, from U+10000 on. The only error is want of memory.
+/// The aligned block of 16 in which each character stands, from U+10000 on. Fails only if memory is refused.
 fn narrow_blocks(alloc: Global, characters: &[char]) -> Result<Vec<u32>, AllocError>
     ensures { IfOk result (λ numbers. numbers.items ≡ map narrow_block characters.now) }
 {
@@ -166,14 +166,14 @@ fn narrow_blocks(alloc: Global, characters: &[char]) -> Result<Vec<u32>, AllocEr
     Ok(numbers)
 }
 
-/// The different numbers. The only error is want of memory.
+/// The different numbers. Fails only if memory is refused.
 fn different(alloc: Global, numbers: &[u32]) -> Result<BTreeSet<u32>, AllocError>
     ensures { IfOk result (IsFromIterResult nat_cmp numbers.now) }
 {
     numbers.iter().copied().collect(alloc)
 }
 
-/// How many different numbers there are. The only error is want of memory.
+/// How many different numbers there are. Fails only if memory is refused.
 fn different_count(alloc: Global, numbers: &[u32]) -> Result<usize, AllocError>
     ensures { IfOk result (λ count. count ≡ distinct_count nat_eq numbers.now) }
 {
@@ -181,7 +181,7 @@ fn different_count(alloc: Global, numbers: &[u32]) -> Result<usize, AllocError>
     Ok(different.len())
 }
 
-/// In how many aligned blocks of 512 characters stand. The only error is want of memory.
+/// In how many aligned blocks of 512 characters stand. Fails only if memory is refused.
 fn wide_count(alloc: Global, characters: &[char]) -> Result<usize, AllocError>
     ensures { IfOk result (λ count. count ≡ block_count wide_block characters.now) }
 {
@@ -190,7 +190,7 @@ fn wide_count(alloc: Global, characters: &[char]) -> Result<usize, AllocError>
     Ok(count)
 }
 
-/// In how many aligned blocks of 16 they stand from U+10000 on. The only error is want of memory.
+/// In how many aligned blocks of 16 they stand from U+10000 on. Fails only if memory is refused.
 fn narrow_count(alloc: Global, characters: &[char]) -> Result<usize, AllocError>
     ensures { IfOk result (λ count. count ≡ block_count narrow_block characters.now) }
 {
@@ -199,7 +199,7 @@ fn narrow_count(alloc: Global, characters: &[char]) -> Result<usize, AllocError>
     Ok(count)
 }
 
-/// Whether characters stand in no more blocks than tries have room for. The only error is want of memory.
+/// Whether characters stand in no more blocks than tries have room for. Fails only if memory is refused.
 fn are_in_few_blocks(alloc: Global, characters: &[char]) -> Result<bool, AllocError>
     ensures { IfOk result (λ few. IsTrue few ↔ AreInFewBlocks characters.now) }
 {
@@ -231,7 +231,7 @@ fn distinct_few(
     Ok(list)
 }
 
-/// The characters that are named by what is built in, but syllables, and others. The only error is want of memory.
+/// The characters that are named by what is built in, but syllables, and others. Fails only if memory is refused.
 fn with_built_in(alloc: Global, others: &[char]) -> Result<Vec<char>, AllocError>
     ensures { IfOk result (λ list. list.items ≡ built_in_named ++ others.now) }
 {
@@ -240,7 +240,7 @@ fn with_built_in(alloc: Global, others: &[char]) -> Result<Vec<char>, AllocError
     Ok(list)
 }
 
-/// The characters with a built-in compatibility mapping, and others. The only error is want of memory.
+/// The characters with a built-in compatibility mapping, and others. Fails only if memory is refused.
 fn with_compatible(alloc: Global, others: &[char]) -> Result<Vec<char>, AllocError>
     ensures { IfOk result (λ list. list.items ≡ (0xff9e ∷ 0xff9f ∷ []) ++ others.now) }
 {

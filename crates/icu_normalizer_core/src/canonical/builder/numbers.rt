@@ -52,7 +52,7 @@ fn is_pair(given: GivenMapping) -> bool
     given.is_composed && given.second.is_some() && !is_fixed(given.character)
 }
 
-/// The numbers of the mappings that aren't built in. The only error is want of memory.
+/// The numbers of the mappings that aren't built in. Fails only if memory is refused.
 pub(super) fn mapping_numbers(
     alloc: Global,
     mappings: &[GivenMapping],
@@ -69,7 +69,7 @@ pub(super) fn mapping_numbers(
     Ok(numbers)
 }
 
-/// The numbers of the composed pairs that aren't built in. The only error is want of memory.
+/// The numbers of the composed pairs that aren't built in. Fails only if memory is refused.
 pub(super) fn pair_numbers(alloc: Global, mappings: &[GivenMapping]) -> Result<Vec<u64>, AllocError>
     requires { All IsOfScalars mappings.now }
     ensures { IfOk result (λ numbers. numbers.items ≡ flat_map pair_numbers mappings.now) }
@@ -83,7 +83,7 @@ pub(super) fn pair_numbers(alloc: Global, mappings: &[GivenMapping]) -> Result<V
     Ok(numbers)
 }
 
-/// The parts of numbers, three each. The only error is want of memory.
+/// The parts of numbers, three each. Fails only if memory is refused.
 pub(super) fn triples(alloc: Global, numbers: &[u64]) -> Result<Vec<u32>, AllocError>
     requires { All IsMappingNumber numbers.now }
     ensures { IfOk result (λ parts. parts.items ≡ flat_map triple numbers.now) }

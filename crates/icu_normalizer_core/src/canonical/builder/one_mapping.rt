@@ -14,7 +14,7 @@ use crate::built_in::is_built_in;
 use std::alloc::{AllocError, Global};
 use std::collections::BTreeMap;
 
-/// Notes a mapping as the first of its character, unless another one is. The only error is want of memory.
+/// Notes a mapping as the first of its character, unless another one is. Fails only if memory is refused.
 fn note_mapping(
     firsts: &mut BTreeMap<char, GivenMapping>,
     given: GivenMapping,
@@ -27,7 +27,7 @@ fn note_mapping(
     Ok(())
 }
 
-/// The first mapping of each character. The only error is want of memory.
+/// The first mapping of each character. Fails only if memory is refused.
 fn first_mappings(
     alloc: Global,
     mappings: &[GivenMapping],
@@ -60,7 +60,7 @@ fn are_noted(firsts: &BTreeMap<char, GivenMapping>, mappings: &[GivenMapping]) -
     true
 }
 
-/// Whether no character has two canonical mappings that differ. The only error is want of memory.
+/// Whether no character has two canonical mappings that differ. Fails only if memory is refused.
 pub(super) fn have_one_mapping(alloc: Global, mappings: &[GivenMapping]) -> Result<bool, AllocError>
     ensures { IfOk result (λ one. IsTrue one ↔ HaveOneMapping mappings.now) }
 {
@@ -68,8 +68,7 @@ pub(super) fn have_one_mapping(alloc: Global, mappings: &[GivenMapping]) -> Resu
     Ok(are_noted(&firsts, mappings))
 }
 
-/// Notes a compatibility mapping as the first of its character, unless another one is. The only error is want of
-/// memory.
+/// Notes a compatibility mapping as the first of its character, unless another one is. Fails only if memory is refused.
 fn note_compatibility<'g>(
     firsts: &mut BTreeMap<char, &'g GivenCompatibility>,
     one: &'g GivenCompatibility,
@@ -82,7 +81,7 @@ fn note_compatibility<'g>(
     Ok(())
 }
 
-/// The first compatibility mapping of each character. The only error is want of memory.
+/// The first compatibility mapping of each character. Fails only if memory is refused.
 fn first_compatibilities(
     alloc: Global,
     given: &[GivenCompatibility],
@@ -126,7 +125,7 @@ fn are_alike(firsts: &BTreeMap<char, &GivenCompatibility>, given: &[GivenCompati
     true
 }
 
-/// Whether no character has two compatibility mappings that differ. The only error is want of memory.
+/// Whether no character has two compatibility mappings that differ. Fails only if memory is refused.
 pub(super) fn have_one_compatibility(
     alloc: Global,
     given: &[GivenCompatibility],
@@ -149,7 +148,7 @@ fn are_unnoted(firsts: &BTreeMap<char, GivenMapping>, given: &[GivenCompatibilit
     true
 }
 
-/// Whether no character has mappings of both kinds, what is built in aside. The only error is want of memory.
+/// Whether no character has mappings of both kinds, what is built in aside. Fails only if memory is refused.
 pub(super) fn are_apart(
     alloc: Global,
     mappings: &[GivenMapping],

@@ -11,7 +11,7 @@ use super::numbers::pair_numbers;
 use crate::canonical::packing::CODE_LIMIT;
 use std::alloc::{AllocError, Global};
 
-/// The composed pairs that aren't built in, one number each in rising order. The only error is want of memory.
+/// The composed pairs that aren't built in, one number each in rising order. Fails only if memory is refused.
 pub(super) fn pairs(alloc: Global, mappings: &[GivenMapping]) -> Result<Vec<u64>, AllocError>
     requires { All IsOfScalars mappings.now }
     ensures pairs { IfOk result (λ pairs. ArePairs pairs.items) }

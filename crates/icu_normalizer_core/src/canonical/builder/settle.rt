@@ -3,7 +3,7 @@
 ghost use Rattle.std.specs.Prelude.{◌≡◌, ◌<◌, ℕ, ◌∷◌, [], true, false, length, slice_get, List, Some, None, MatchOption, IfOk, IfSome, All};
 ghost use Rattle.std.specs.Char.{IsScalar};
 ghost use Rattle.icu_normalizer_core.specs.CanonicalMeaning.{meaning};
-ghost use Rattle.icu_normalizer_core.specs.FirstMappings.{HasFirstPlaces};
+ghost use Rattle.icu_normalizer_core.specs.FirstMappings.{HasFirstIndices};
 ghost use Rattle.icu_normalizer_core.specs.Settled.{open_count};
 ghost use Rattle.icu_normalizer_core.specs.SettledMappings.{AreMappingStarts, HasOpen, IsAllSettled, IsOpenMapping, IsSound, StartsLeft, mapping_at, steps_in};
 
@@ -20,12 +20,12 @@ impl Mappings<'_> {
     /// What steps leave of a character without a canonical mapping; `None` where that isn't settled.
     fn listed_left(
         self,
-        places: &BTreeMap<char, usize>,
+        indices: &BTreeMap<char, usize>,
         settled: &[Option<Left>],
         c: char,
     ) -> Option<Left>
         requires sound { IsSound self }
-        requires places { HasFirstPlaces self.given.now places.now }
+        requires indices { HasFirstIndices self.given.now indices.now }
         requires starts { AreMappingStarts (steps_in self) self.given.now settled.now }
         requires unmapped { (meaning self.tables.now).step c ≡ [] }
         ensures { MatchOption result (IsOpenMapping self.entry.given.now settled.now c) (StartsLeft (steps_in self.entry) (c ∷ [])) }
@@ -36,8 +36,8 @@ impl Mappings<'_> {
         if built_in_step(c as u32).is_some() {
             return Some(Left::one(c as u32));
         }
-        match places.get(&c).copied() {
-            Some(place) => settled[place],
+        match indices.get(&c).copied() {
+            Some(index) => settled[index],
             None => Some(Left::one(c as u32)),
         }
     }
@@ -45,18 +45,18 @@ impl Mappings<'_> {
     /// What steps leave of a character; `None` where that isn't settled.
     pub(super) fn left_of(
         self,
-        places: &BTreeMap<char, usize>,
+        indices: &BTreeMap<char, usize>,
         settled: &[Option<Left>],
         c: char,
     ) -> Option<Left>
         requires sound { IsSound self }
-        requires places { HasFirstPlaces self.given.now places.now }
+        requires indices { HasFirstIndices self.given.now indices.now }
         requires starts { AreMappingStarts (steps_in self) self.given.now settled.now }
         ensures { MatchOption result (HasOpen (meaning self.entry.tables.now).full self.entry.given.now settled.now (c ∷ [])) (StartsLeft (steps_in self.entry) (c ∷ [])) }
     {
         let mut left = Left::none();
         for d in full_list(self.tables, c) {
-            let Some(more) = self.listed_left(places, settled, d) else {
+            let Some(more) = self.listed_left(indices, settled, d) else {
                 return None;
             };
             left = left.joined(more);
@@ -67,19 +67,19 @@ impl Mappings<'_> {
     /// What steps leave of a mapping; `None` where that isn't settled.
     fn mapping_left(
         self,
-        places: &BTreeMap<char, usize>,
+        indices: &BTreeMap<char, usize>,
         settled: &[Option<Left>],
         mapping: &[char],
     ) -> Option<Left>
         requires sound { IsSound self }
-        requires places { HasFirstPlaces self.given.now places.now }
+        requires indices { HasFirstIndices self.given.now indices.now }
         requires starts { AreMappingStarts (steps_in self) self.given.now settled.now }
         requires scalars { All IsScalar mapping.now }
         ensures { MatchOption result (HasOpen (meaning self.entry.tables.now).full self.entry.given.now settled.now mapping.now) (StartsLeft (steps_in self.entry) mapping.now) }
     {
         let mut left = Left::none();
         for c in mapping {
-            let Some(more) = self.left_of(places, settled, *c) else {
+            let Some(more) = self.left_of(indices, settled, *c) else {
                 return None;
             };
             left = left.joined(more);
@@ -90,129 +90,129 @@ impl Mappings<'_> {
     /// Settles a mapping, where it wasn't settled and can be; whether it was.
     fn settle_at(
         self,
-        places: &BTreeMap<char, usize>,
+        indices: &BTreeMap<char, usize>,
         settled: &mut [Option<Left>],
-        place: usize,
+        index: usize,
     ) -> bool
         requires sound { IsSound self }
-        requires places { HasFirstPlaces self.given.now places.now }
+        requires indices { HasFirstIndices self.given.now indices.now }
         requires starts { AreMappingStarts (steps_in self) self.given.now settled.old }
-        requires inside { place < length self.given.now }
+        requires inside { index < length self.given.now }
         ensures starts { AreMappingStarts (steps_in self.entry) self.entry.given.now settled.new }
         ensures progress { result ≡ true → open_count settled.new < open_count settled.old }
         ensures same { result ≡ false → settled.new ≡ settled.old }
-        ensures open { result ≡ false → slice_get settled.new place ≡ Some None → HasOpen (meaning self.entry.tables.now).full self.entry.given.now settled.new (mapping_at self.entry.given.now place) }
+        ensures open { result ≡ false → slice_get settled.new index ≡ Some None → HasOpen (meaning self.entry.tables.now).full self.entry.given.now settled.new (mapping_at self.entry.given.now index) }
     {
-        if settled[place].is_some() {
+        if settled[index].is_some() {
             return false;
         }
-        let Some(left) = self.mapping_left(places, settled, self.given[place].mapping.as_slice())
+        let Some(left) = self.mapping_left(indices, settled, self.given[index].mapping.as_slice())
         else {
             return false;
         };
-        settled[place] = Some(left);
+        settled[index] = Some(left);
         true
     }
 
-    /// The place of a character's mapping, where that is neither settled nor visited.
-    fn unvisited_place(
+    /// The index of a character's mapping, where that is neither settled nor visited.
+    fn unvisited_index(
         self,
-        places: &BTreeMap<char, usize>,
+        indices: &BTreeMap<char, usize>,
         settled: &[Option<Left>],
         visited: &[bool],
         c: char,
     ) -> Option<usize>
         requires sound { IsSound self }
-        requires places { HasFirstPlaces self.given.now places.now }
+        requires indices { HasFirstIndices self.given.now indices.now }
         requires settled { length settled.now ≡ length self.given.now }
         requires visited { length visited.now ≡ length self.given.now }
-        ensures { IfSome result (λ place. slice_get visited.now place ≡ Some false) }
+        ensures { IfSome result (λ index. slice_get visited.now index ≡ Some false) }
     {
-        let place = places.get(&c).copied()?;
-        if settled[place].is_some() || visited[place] {
+        let index = indices.get(&c).copied()?;
+        if settled[index].is_some() || visited[index] {
             return None;
         }
-        Some(place)
+        Some(index)
     }
 
     /// A mapping without which it isn't known what steps leave of a character, neither settled nor visited.
     fn needed_by(
         self,
-        places: &BTreeMap<char, usize>,
+        indices: &BTreeMap<char, usize>,
         settled: &[Option<Left>],
         visited: &[bool],
         c: char,
     ) -> Option<usize>
         requires sound { IsSound self }
-        requires places { HasFirstPlaces self.given.now places.now }
+        requires indices { HasFirstIndices self.given.now indices.now }
         requires settled { length settled.now ≡ length self.given.now }
         requires visited { length visited.now ≡ length self.given.now }
-        ensures { IfSome result (λ place. slice_get visited.now place ≡ Some false) }
+        ensures { IfSome result (λ index. slice_get visited.now index ≡ Some false) }
     {
         for d in full_list(self.tables, c) {
-            if let Some(needed) = self.unvisited_place(places, settled, visited, d) {
+            if let Some(needed) = self.unvisited_index(indices, settled, visited, d) {
                 return Some(needed);
             }
         }
         None
     }
 
-    /// A mapping without which that at a place can't be settled, neither settled nor visited.
+    /// A mapping without which that at an index can't be settled, neither settled nor visited.
     fn needed_at(
         self,
-        places: &BTreeMap<char, usize>,
+        indices: &BTreeMap<char, usize>,
         settled: &[Option<Left>],
         visited: &[bool],
-        place: usize,
+        index: usize,
     ) -> Option<usize>
         requires sound { IsSound self }
-        requires places { HasFirstPlaces self.given.now places.now }
+        requires indices { HasFirstIndices self.given.now indices.now }
         requires settled { length settled.now ≡ length self.given.now }
         requires visited { length visited.now ≡ length self.given.now }
-        requires inside { place < length self.given.now }
-        ensures { IfSome result (λ place. slice_get visited.now place ≡ Some false) }
+        requires inside { index < length self.given.now }
+        ensures { IfSome result (λ index. slice_get visited.now index ≡ Some false) }
     {
-        for c in self.given[place].mapping.as_slice() {
-            if let Some(needed) = self.needed_by(places, settled, visited, *c) {
+        for c in self.given[index].mapping.as_slice() {
+            if let Some(needed) = self.needed_by(indices, settled, visited, *c) {
                 return Some(needed);
             }
         }
         None
     }
 
-    /// The places of the mappings, the first one last. The only error is want of memory.
-    fn all_places(self, alloc: Global) -> Result<Vec<usize>, AllocError>
-        ensures { IfOk result (λ places. All (λ place. place < length self.entry.given.now) places.items) }
+    /// The indices of the mappings, the first one last. Fails only if memory is refused.
+    fn all_indices(self, alloc: Global) -> Result<Vec<usize>, AllocError>
+        ensures { IfOk result (λ indices. All (λ index. index < length self.entry.given.now) indices.items) }
     {
-        let mut places = Vec::new(alloc);
-        for place in (0..self.given.len()).rev() {
-            places.push(place)?;
+        let mut indices = Vec::new(alloc);
+        for index in (0..self.given.len()).rev() {
+            indices.push(index)?;
         }
-        Ok(places)
+        Ok(indices)
     }
 
-    /// Settles the mappings that can be, each behind those that it needs, by a walk in depth that visits each but once. The
-    /// only error is want of memory.
+    /// Settles the mappings that can be, each after those that it needs, by a walk in depth that visits each but once.
+    /// Fails only if memory is refused.
     fn settle_in_depth(
         self,
         alloc: Global,
-        places: &BTreeMap<char, usize>,
+        indices: &BTreeMap<char, usize>,
         settled: &mut [Option<Left>],
     ) -> Result<(), AllocError>
         requires sound { IsSound self }
-        requires places { HasFirstPlaces self.given.now places.now }
+        requires indices { HasFirstIndices self.given.now indices.now }
         requires starts { AreMappingStarts (steps_in self) self.given.now settled.old }
         ensures starts { AreMappingStarts (steps_in self.entry) self.entry.given.now settled.new }
     {
         let mut visited = vec![in alloc; false; self.given.len()]?;
-        let mut path = self.all_places(alloc)?;
-        while let Some(place) = path.pop() {
-            if self.settle_at(places, settled, place) {
+        let mut path = self.all_indices(alloc)?;
+        while let Some(index) = path.pop() {
+            if self.settle_at(indices, settled, index) {
                 continue;
             }
-            if let Some(needed) = self.needed_at(places, settled, &visited, place) {
+            if let Some(needed) = self.needed_at(indices, settled, &visited, index) {
                 visited[needed] = true;
-                path.push(place)?;
+                path.push(index)?;
                 path.push(needed)?;
             }
         }
@@ -220,43 +220,43 @@ impl Mappings<'_> {
     }
 
     /// Settles the mappings that can be, one after another; whether there was one.
-    fn settle_once(self, places: &BTreeMap<char, usize>, settled: &mut [Option<Left>]) -> bool
+    fn settle_once(self, indices: &BTreeMap<char, usize>, settled: &mut [Option<Left>]) -> bool
         requires sound { IsSound self }
-        requires places { HasFirstPlaces self.given.now places.now }
+        requires indices { HasFirstIndices self.given.now indices.now }
         requires starts { AreMappingStarts (steps_in self) self.given.now settled.old }
         ensures starts { AreMappingStarts (steps_in self.entry) self.entry.given.now settled.new }
         ensures progress { result ≡ true → open_count settled.new < open_count settled.old }
         ensures done { result ≡ false → IsAllSettled (meaning self.entry.tables.now).full self.entry.given.now settled.new }
     {
         let mut more = false;
-        for place in 0..self.given.len() {
-            if self.settle_at(places, settled, place) {
+        for index in 0..self.given.len() {
+            if self.settle_at(indices, settled, index) {
                 more = true;
             }
         }
         more
     }
 
-    /// What steps leave of the mappings, where they end. The only error is want of memory.
+    /// What steps leave of the mappings, where they end. Fails only if memory is refused.
     pub(super) fn settle(
         self,
         alloc: Global,
-        places: &BTreeMap<char, usize>,
+        indices: &BTreeMap<char, usize>,
     ) -> Result<Vec<Option<Left>>, AllocError>
         requires sound { IsSound self }
-        requires places { HasFirstPlaces self.given.now places.now }
+        requires indices { HasFirstIndices self.given.now indices.now }
         ensures starts { IfOk result (λ settled. AreMappingStarts (steps_in self.entry) self.entry.given.now settled.items) }
         ensures done { IfOk result (λ settled. IsAllSettled (meaning self.entry.tables.now).full self.entry.given.now settled.items) }
     {
         let mut settled = all_open(alloc, self.given)?;
-        self.settle_in_depth(alloc, places, settled.as_mut_slice())?;
+        self.settle_in_depth(alloc, indices, settled.as_mut_slice())?;
         // Now all are settled that can be, and the last look at each finds no more.
-        while self.settle_once(places, settled.as_mut_slice()) {}
+        while self.settle_once(indices, settled.as_mut_slice()) {}
         Ok(settled)
     }
 }
 
-/// No mapping is settled yet. The only error is want of memory.
+/// No mapping is settled yet. Fails only if memory is refused.
 fn all_open(alloc: Global, given: &[GivenCompatibility]) -> Result<Vec<Option<Left>>, AllocError>
     ensures { (step : ℕ → List ℕ) → IfOk result (λ settled. AreMappingStarts step given.now settled.items) }
 {

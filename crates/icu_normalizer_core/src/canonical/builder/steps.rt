@@ -16,13 +16,13 @@ use super::numbers::{mapping_numbers, triples};
 use crate::canonical::packing::TWO_CODES_LIMIT;
 use std::alloc::{AllocError, Global};
 
-/// The mappings that aren't built in, three numbers each in rising order. The only error is want of memory.
+/// The mappings that aren't built in, three numbers each in rising order. Fails only if memory is refused.
 pub(super) fn steps(alloc: Global, mappings: &[GivenMapping]) -> Result<Vec<u32>, AllocError>
     requires { All IsOfScalars mappings.now }
     ensures triples { IfOk result (λ steps. AreTriples steps.items) }
     ensures listed { IfOk result (λ steps. (c : ℕ) → listed_step steps.items c ≡ cond (is_some (built_in_step c)) [] (given_step mappings.now c)) }
     ensures few { IfOk result (λ steps. length steps.items ≤ 3 * distinct_count nat_eq (map (λ g. g.character) mappings.now)) }
-    ensures free { IfOk result (λ steps. (place : ℕ) → place < length steps.items / 3 → IsFree (key_at steps.items place)) }
+    ensures free { IfOk result (λ steps. (index : ℕ) → index < length steps.items / 3 → IsFree (key_at steps.items index)) }
 {
     let numbers = mapping_numbers(alloc, mappings)?;
     let sorted = in_order(alloc, numbers.as_slice(), TWO_CODES_LIMIT)?;

@@ -26,7 +26,7 @@ use icu_codepointtrie::CodePointTrie;
 use icu_packed_vector::PackedVec;
 use std::alloc::{AllocError, Global};
 
-/// The mappings that aren't built in, packed. The only error is want of memory.
+/// The mappings that aren't built in, packed. Fails only if memory is refused.
 fn packed_steps(
     alloc: Global,
     mappings: &[GivenMapping],
@@ -39,7 +39,7 @@ fn packed_steps(
     Ok(packed)
 }
 
-/// The composed pairs that aren't built in, packed. The only error is want of memory.
+/// The composed pairs that aren't built in, packed. Fails only if memory is refused.
 fn packed_pairs(
     alloc: Global,
     mappings: &[GivenMapping],
@@ -52,7 +52,7 @@ fn packed_pairs(
     Ok(packed)
 }
 
-/// The trie of the words of characters. The only error is want of memory.
+/// The trie of the words of characters. Fails only if memory is refused.
 fn word_trie(
     alloc: Global,
     classes: &Classes<'_>,
@@ -77,7 +77,7 @@ fn word_trie(
     Ok(trie)
 }
 
-/// The tables of mappings, words of full lists, and classes. The only error is want of memory.
+/// The tables of mappings, words of full lists, and classes. Fails only if memory is refused.
 #[tactic(auto, using(crate::proofs::builder::BuiltTableLemmas::put_together))]
 fn packed_tables(
     alloc: Global,

@@ -23,7 +23,7 @@ pub(super) fn set_word(words: &mut CodePointTrieBuilder<u32>, c: u32, word: u32)
     words.set_value(c, word).unwrap();
 }
 
-/// The words as none are set, 1 for each Hangul syllable. The only error is want of memory.
+/// The words as none are set, 1 for each Hangul syllable. Fails only if memory is refused.
 pub(super) fn unnamed_words(alloc: Global) -> Result<CodePointTrieBuilder<u32>, AllocError>
     ensures { IfOk result AreUnnamed }
 {
@@ -32,7 +32,7 @@ pub(super) fn unnamed_words(alloc: Global) -> Result<CodePointTrieBuilder<u32>, 
     Ok(words)
 }
 
-/// The words of characters. The only error is want of memory.
+/// The words of characters. Fails only if memory is refused.
 pub(super) fn words_of(
     alloc: Global,
     classes: &Classes<'_>,
@@ -55,7 +55,7 @@ pub(super) fn words_of(
     Ok(words)
 }
 
-/// The trie of words. The only error is want of memory.
+/// The trie of words. Fails only if memory is refused.
 pub(super) fn trie_of(
     words: &CodePointTrieBuilder<u32>,
 ) -> Result<CodePointTrie<'static, u32>, AllocError>

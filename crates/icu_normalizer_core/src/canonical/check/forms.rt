@@ -16,18 +16,18 @@ fn is_character(code: u32) -> bool
     char::from_u32(code).is_some()
 }
 
-/// Whether three numbers from a place on are a triple of characters, above the one before.
-fn is_triple(steps: &PackedVec<'_, u32>, place: usize) -> bool
-    requires inside { 3 * place + 2 < length steps.now }
-    requires fits { 3 * place + 2 < 2 ^ 64 }
-    ensures { IsTrue result ↔ IsTripleAt steps.now place }
+/// Whether three numbers from an index on are a triple of characters, above the one before.
+fn is_triple(steps: &PackedVec<'_, u32>, index: usize) -> bool
+    requires inside { 3 * index + 2 < length steps.now }
+    requires fits { 3 * index + 2 < 2 ^ 64 }
+    ensures { IsTrue result ↔ IsTripleAt steps.now index }
 {
-    let key = steps.at(3 * place);
-    let second = steps.at(3 * place + 2);
+    let key = steps.at(3 * index);
+    let second = steps.at(3 * index + 2);
     is_character(key)
-        && is_character(steps.at(3 * place + 1))
+        && is_character(steps.at(3 * index + 1))
         && (second == NO_SECOND || is_character(second))
-        && (place == 0 || steps.at(3 * place - 3) < key)
+        && (index == 0 || steps.at(3 * index - 3) < key)
 }
 
 /// Whether mappings are whole triples of characters, which rise.
@@ -38,35 +38,35 @@ pub(super) fn are_triples(steps: &PackedVec<'_, u32>) -> bool
     if steps.len() % 3 != 0 {
         return false;
     }
-    for place in 0..count {
-        if !is_triple(steps, place) {
+    for index in 0..count {
+        if !is_triple(steps, index) {
             return false;
         }
     }
     true
 }
 
-/// Whether the number at a place is that of three characters, and its pair's above the one before.
-fn is_pair(pairs: &PackedVec<'_, u64>, place: usize) -> bool
-    requires { place < length pairs.now }
-    ensures { IsTrue result ↔ IsPairAt pairs.now place }
+/// Whether the number at an index is that of three characters, and its pair's above the one before.
+fn is_pair(pairs: &PackedVec<'_, u64>, index: usize) -> bool
+    requires { index < length pairs.now }
+    ensures { IsTrue result ↔ IsPairAt pairs.now index }
 {
-    let pair = pairs.at(place);
+    let pair = pairs.at(index);
     let first = pair >> 42;
     let second = (pair >> 21) % CODE_LIMIT;
     let composed = pair % CODE_LIMIT;
     is_character(first as u32)
         && is_character(second as u32)
         && is_character(composed as u32)
-        && (place == 0 || pairs.at(place - 1) >> 21 < pair >> 21)
+        && (index == 0 || pairs.at(index - 1) >> 21 < pair >> 21)
 }
 
 /// Whether pairs are three characters each, which rise, no two of one pair.
 pub(super) fn are_pairs(pairs: &PackedVec<'_, u64>) -> bool
     ensures { IsTrue result ↔ ArePairs pairs.now }
 {
-    for place in 0..pairs.len() {
-        if !is_pair(pairs, place) {
+    for index in 0..pairs.len() {
+        if !is_pair(pairs, index) {
             return false;
         }
     }

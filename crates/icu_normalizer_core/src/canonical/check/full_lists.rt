@@ -20,7 +20,7 @@ use crate::canonical::canonical_words::{Words, is_list_word, states_list};
 use crate::canonical::tables::CanonicalTables;
 use icu_packed_vector::PackedVec;
 
-/// Whether the word names no place outside the lists.
+/// Whether the word names no index outside the lists.
 pub(super) fn is_inside(tables: &CanonicalTables<'_>, word: u32) -> bool
     ensures { result ≡ is_inside tables.now.scalars16 tables.now.scalars24 word }
 {
@@ -28,7 +28,7 @@ pub(super) fn is_inside(tables: &CanonicalTables<'_>, word: u32) -> bool
 }
 
 impl Words<'_> {
-    /// Whether a word names no place outside the lists.
+    /// Whether a word names no index outside the lists.
     #[tactic(auto, unfolding(crate::specs::CanonicalWords::is_inside))]
     pub(crate) fn is_inside(self, word: u32) -> bool
         ensures { result ≡ is_inside self.entry.scalars16.now self.entry.scalars24.now word }
@@ -42,8 +42,8 @@ impl Words<'_> {
         if offset < in_16 {
             offset + (count + 2) <= in_16
         } else {
-            let place = offset - in_16;
-            place + (count + 1) <= self.scalars24.len()
+            let index = offset - in_16;
+            index + (count + 1) <= self.scalars24.len()
         }
     }
 }

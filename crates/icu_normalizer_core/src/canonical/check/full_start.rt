@@ -24,41 +24,41 @@ impl Left {
     }
 }
 
-/// The number at a place, `None` past the end.
-fn number_at(words: Words<'_>, source: Source, place: usize) -> Option<u32>
-    ensures { result ≡ slice_get (source_items words.entry source) place }
+/// The number at an index, `None` past the end.
+fn number_at(words: Words<'_>, source: Source, index: usize) -> Option<u32>
+    ensures { result ≡ slice_get (source_items words.entry source) index }
 {
     match source {
-        Source::Few(characters) => match characters.get(place) {
+        Source::Few(characters) => match characters.get(index) {
             Some(c) => Some(*c as u32),
             None => None,
         },
-        Source::In16 => match words.scalars16.get(place) {
+        Source::In16 => match words.scalars16.get(index) {
             Some(number) => Some(number as u32),
             None => None,
         },
-        Source::In24 => match words.scalars24.get(place) {
+        Source::In24 => match words.scalars24.get(index) {
             Some(c) => Some(c as u32),
             None => None,
         },
     }
 }
 
-/// The first nine of so many numbers from a place on, as many as there are.
-fn part_start(words: Words<'_>, source: Source, place: usize, count: usize) -> Left
-    requires { place + count < 2 ^ 32 }
-    ensures { left_items result ≡ take 9 (items_at (source_items words.entry source) place count) }
+/// The first nine of so many numbers from an index on, as many as there are.
+fn part_start(words: Words<'_>, source: Source, index: usize, count: usize) -> Left
+    requires { index + count < 2 ^ 32 }
+    ensures { left_items result ≡ take 9 (items_at (source_items words.entry source) index count) }
 {
     let mut left = Left::none();
     for i in 0..count {
-        if let Some(number) = number_at(words, source, place + i) {
+        if let Some(number) = number_at(words, source, index + i) {
             left = left.with(number);
         }
     }
     left
 }
 
-/// The first nine numbers of the list that a word names a place of.
+/// The first nine numbers of the list that a word names an index of.
 #[tactic(auto, unfolding(crate::specs::CanonicalWords::list_at))]
 fn listed_start(words: Words<'_>, word: u32) -> Left
     requires word { is_list_word word ≡ true }

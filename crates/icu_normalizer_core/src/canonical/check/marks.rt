@@ -20,10 +20,10 @@ pub(super) fn class_of(tables: &CanonicalTables<'_>, c: u32) -> u8
 pub(super) fn put_marks_in_order(tables: &CanonicalTables<'_>, list: &mut [u32])
     ensures { list.new ≡ marks_in_order (meaning tables.now).class list.old }
 {
-    let mut place = list.len();
-    while place > 0 {
-        place -= 1;
-        put_mark_in_order(tables, list, place);
+    let mut index = list.len();
+    while index > 0 {
+        index -= 1;
+        put_mark_in_order(tables, list, index);
     }
 }
 
@@ -34,16 +34,16 @@ fn put_mark_in_order(tables: &CanonicalTables<'_>, list: &mut [u32], at: usize)
 {
     let character = list[at];
     let class = class_of(tables, character);
-    let mut place = at;
-    while place + 1 < list.len() {
-        let next = list[place + 1];
+    let mut index = at;
+    while index + 1 < list.len() {
+        let next = list[index + 1];
         if !is_mark_below(class_of(tables, next), class) {
             break;
         }
-        list[place] = next;
-        place += 1;
+        list[index] = next;
+        index += 1;
     }
-    list[place] = character;
+    list[index] = character;
 }
 
 /// Whether a class is that of a mark, and below the other.

@@ -71,8 +71,8 @@ fn first_badly_composed(tables: &CanonicalTables<'_>) -> Option<char>
     ensures { MatchOption result (NoneOffends (IsBadlyComposed (lists_of tables.now))) (IsLeastOffender (IsBadlyComposed (lists_of tables.now))) }
 {
     let mut found = None;
-    for place in 0..tables.pairs.len() {
-        let pair = tables.pairs.at(place);
+    for index in 0..tables.pairs.len() {
+        let pair = tables.pairs.at(index);
         if is_bad_pair(tables, pair) {
             found = least_of(found, Some(composed_of(pair)));
         }

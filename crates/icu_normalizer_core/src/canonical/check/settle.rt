@@ -27,7 +27,7 @@ impl Left {
         }
     }
 
-    /// Both, one behind the other, cut to nine.
+    /// Both, one after the other, cut to nine.
     pub(crate) fn joined(self, other: Left) -> Left
         ensures { left_items result ≡ take 9 (left_items self ++ left_items other) }
     {
@@ -68,12 +68,12 @@ pub(super) fn letters(c: u32) -> Left
     requires { is_syllable c ≡ true }
     ensures { left_items result ≡ syllable_letters c }
 {
-    let place = c - 0xac00;
-    let pair = Left::one(0x1100 + place / 588).with(0x1161 + place % 588 / 28);
-    if place % 28 == 0 {
+    let index = c - 0xac00;
+    let pair = Left::one(0x1100 + index / 588).with(0x1161 + index % 588 / 28);
+    if index % 28 == 0 {
         pair
     } else {
-        pair.with(0x11a7 + place % 28)
+        pair.with(0x11a7 + index % 28)
     }
 }
 
@@ -89,7 +89,7 @@ pub(super) fn listed_left(
     ensures { MatchOption result (IsOpen steps.now settled.now c) (IsStartOf steps.now (c ∷ [])) }
 {
     match triple_of(steps, c) {
-        Some(place) => settled[place],
+        Some(index) => settled[index],
         None => Some(Left::one(c)),
     }
 }
@@ -142,17 +142,17 @@ pub(super) fn left_of(steps: &PackedVec<'_, u32>, settled: &[Option<Left>], c: u
 }
 
 /// What steps leave of the mapping of a triple; `None` where that isn't settled.
-fn mapping_left(steps: &PackedVec<'_, u32>, settled: &[Option<Left>], place: usize) -> Option<Left>
+fn mapping_left(steps: &PackedVec<'_, u32>, settled: &[Option<Left>], index: usize) -> Option<Left>
     requires triples { AreTriples steps.now }
     requires starts { AreStarts steps.now settled.now }
-    requires inside { 3 * place + 2 < length steps.now }
-    requires fits { 3 * place + 2 < 2 ^ 64 }
-    ensures { MatchOption result (HasStuck steps.now settled.now (mapping_of steps.now place)) (IsStartOf steps.now (mapping_of steps.now place)) }
+    requires inside { 3 * index + 2 < length steps.now }
+    requires fits { 3 * index + 2 < 2 ^ 64 }
+    ensures { MatchOption result (HasStuck steps.now settled.now (mapping_of steps.now index)) (IsStartOf steps.now (mapping_of steps.now index)) }
 {
-    let Some(first) = left_of(steps, settled, steps.at(3 * place + 1)) else {
+    let Some(first) = left_of(steps, settled, steps.at(3 * index + 1)) else {
         return None;
     };
-    let second = steps.at(3 * place + 2);
+    let second = steps.at(3 * index + 2);
     if second == NO_SECOND {
         return Some(first);
     }
@@ -163,23 +163,23 @@ fn mapping_left(steps: &PackedVec<'_, u32>, settled: &[Option<Left>], place: usi
 }
 
 /// Settles a triple, where it wasn't settled and can be; whether it was.
-fn settle_at(steps: &PackedVec<'_, u32>, settled: &mut [Option<Left>], place: usize) -> bool
+fn settle_at(steps: &PackedVec<'_, u32>, settled: &mut [Option<Left>], index: usize) -> bool
     requires triples { AreTriples steps.now }
     requires starts { AreStarts steps.now settled.old }
-    requires inside { 3 * place + 2 < length steps.now }
-    requires fits { 3 * place + 2 < 2 ^ 64 }
+    requires inside { 3 * index + 2 < length steps.now }
+    requires fits { 3 * index + 2 < 2 ^ 64 }
     ensures starts { AreStarts steps.now settled.new }
     ensures progress { result ≡ true → open_count settled.new < open_count settled.old }
     ensures same { result ≡ false → settled.new ≡ settled.old }
-    ensures stuck { result ≡ false → slice_get settled.new place ≡ Some None → HasStuck steps.now settled.new (mapping_of steps.now place) }
+    ensures stuck { result ≡ false → slice_get settled.new index ≡ Some None → HasStuck steps.now settled.new (mapping_of steps.now index) }
 {
-    if settled[place].is_some() {
+    if settled[index].is_some() {
         return false;
     }
-    let Some(left) = mapping_left(steps, settled, place) else {
+    let Some(left) = mapping_left(steps, settled, index) else {
         return false;
     };
-    settled[place] = Some(left);
+    settled[index] = Some(left);
     true
 }
 
@@ -193,15 +193,15 @@ fn settle_once(steps: &PackedVec<'_, u32>, settled: &mut [Option<Left>]) -> bool
 {
     let count = steps.len() / 3;
     let mut more = false;
-    for place in 0..count {
-        if settle_at(steps, settled, place) {
+    for index in 0..count {
+        if settle_at(steps, settled, index) {
             more = true;
         }
     }
     more
 }
 
-/// The place of a character's triple, where that is neither settled nor visited.
+/// The index of a character's triple, where that is neither settled nor visited.
 fn unvisited_triple(
     steps: &PackedVec<'_, u32>,
     settled: &[Option<Left>],
@@ -211,13 +211,13 @@ fn unvisited_triple(
     requires triples { AreTriples steps.now }
     requires settled { length settled.now ≡ length steps.now / 3 }
     requires visited { length visited.now ≡ length steps.now / 3 }
-    ensures { IfSome result (λ place. slice_get visited.now place ≡ Some false) }
+    ensures { IfSome result (λ index. slice_get visited.now index ≡ Some false) }
 {
-    let place = triple_of(steps, c)?;
-    if settled[place].is_some() || visited[place] {
+    let index = triple_of(steps, c)?;
+    if settled[index].is_some() || visited[index] {
         return None;
     }
-    Some(place)
+    Some(index)
 }
 
 /// A triple without which it isn't known what steps leave of a character, neither settled nor visited.
@@ -230,7 +230,7 @@ fn needed_by(
     requires triples { AreTriples steps.now }
     requires settled { length settled.now ≡ length steps.now / 3 }
     requires visited { length visited.now ≡ length steps.now / 3 }
-    ensures { IfSome result (λ place. slice_get visited.now place ≡ Some false) }
+    ensures { IfSome result (λ index. slice_get visited.now index ≡ Some false) }
 {
     if is_syllable(c) {
         return None;
@@ -241,46 +241,46 @@ fn needed_by(
         Some(Decomposed::Singleton(a)) => unvisited_triple(steps, settled, visited, a as u32),
         Some(Decomposed::Expansion(a, b)) => {
             match unvisited_triple(steps, settled, visited, a as u32) {
-                Some(place) => Some(place),
+                Some(index) => Some(index),
                 None => unvisited_triple(steps, settled, visited, b as u32),
             }
         }
     }
 }
 
-/// A triple without which that at a place can't be settled, neither settled nor visited.
+/// A triple without which that at an index can't be settled, neither settled nor visited.
 fn needed_at(
     steps: &PackedVec<'_, u32>,
     settled: &[Option<Left>],
     visited: &[bool],
-    place: usize,
+    index: usize,
 ) -> Option<usize>
     requires triples { AreTriples steps.now }
     requires settled { length settled.now ≡ length steps.now / 3 }
     requires visited { length visited.now ≡ length steps.now / 3 }
-    requires inside { 3 * place + 2 < length steps.now }
-    requires fits { 3 * place + 2 < 2 ^ 64 }
-    ensures { IfSome result (λ place. slice_get visited.now place ≡ Some false) }
+    requires inside { 3 * index + 2 < length steps.now }
+    requires fits { 3 * index + 2 < 2 ^ 64 }
+    ensures { IfSome result (λ index. slice_get visited.now index ≡ Some false) }
 {
-    match needed_by(steps, settled, visited, steps.at(3 * place + 1)) {
+    match needed_by(steps, settled, visited, steps.at(3 * index + 1)) {
         Some(needed) => Some(needed),
-        None => needed_by(steps, settled, visited, steps.at(3 * place + 2)),
+        None => needed_by(steps, settled, visited, steps.at(3 * index + 2)),
     }
 }
 
-/// The places of the triples, the first one last. The only error is want of memory.
-fn all_places(alloc: Global, steps: &PackedVec<'_, u32>) -> Result<Vec<usize>, AllocError>
-    ensures { IfOk result (λ places. All (λ place. 3 * place + 2 < length steps.now) places.items) }
+/// The indices of the triples, the first one last. Fails only if memory is refused.
+fn all_indices(alloc: Global, steps: &PackedVec<'_, u32>) -> Result<Vec<usize>, AllocError>
+    ensures { IfOk result (λ indices. All (λ index. 3 * index + 2 < length steps.now) indices.items) }
 {
-    let mut places = Vec::new(alloc);
-    for place in (0..steps.len() / 3).rev() {
-        places.push(place)?;
+    let mut indices = Vec::new(alloc);
+    for index in (0..steps.len() / 3).rev() {
+        indices.push(index)?;
     }
-    Ok(places)
+    Ok(indices)
 }
 
-/// Settles the triples that can be, each behind those that it needs, by a walk in depth that visits each but once. The
-/// only error is want of memory.
+/// Settles the triples that can be, each after those that it needs, by a walk in depth that visits each but once. Fails
+/// only if memory is refused.
 fn settle_in_depth(
     alloc: Global,
     steps: &PackedVec<'_, u32>,
@@ -291,21 +291,21 @@ fn settle_in_depth(
     ensures starts { AreStarts steps.now settled.new }
 {
     let mut visited = vec![in alloc; false; steps.len() / 3]?;
-    let mut path = all_places(alloc, steps)?;
-    while let Some(place) = path.pop() {
-        if settle_at(steps, settled, place) {
+    let mut path = all_indices(alloc, steps)?;
+    while let Some(index) = path.pop() {
+        if settle_at(steps, settled, index) {
             continue;
         }
-        if let Some(needed) = needed_at(steps, settled, &visited, place) {
+        if let Some(needed) = needed_at(steps, settled, &visited, index) {
             visited[needed] = true;
-            path.push(place)?;
+            path.push(index)?;
             path.push(needed)?;
         }
     }
     Ok(())
 }
 
-/// What steps leave of the triples' characters, where they end. The only error is want of memory.
+/// What steps leave of the triples' characters, where they end. Fails only if memory is refused.
 pub(crate) fn settle(
     alloc: Global,
     steps: &PackedVec<'_, u32>,
@@ -321,7 +321,7 @@ pub(crate) fn settle(
     Ok(settled)
 }
 
-/// No triple is settled yet. The only error is want of memory.
+/// No triple is settled yet. Fails only if memory is refused.
 fn all_open(alloc: Global, steps: &PackedVec<'_, u32>) -> Result<Vec<Option<Left>>, AllocError>
     ensures { IfOk result (λ settled. AreStarts steps.now settled.items) }
 {

@@ -21,9 +21,9 @@ use std::alloc::{AllocError, Global};
 fn refuse(answers: &mut [bool], code: u32)
     ensures { (c : ℕ) → SaysYes answers.new c → SaysYes answers.old c × (c ≢ code) }
 {
-    let place = code as usize;
-    if place < answers.len() {
-        answers[place] = false;
+    let index = code as usize;
+    if index < answers.len() {
+        answers[index] = false;
     }
 }
 
@@ -41,8 +41,8 @@ fn refuse_seconds(pairs: &PackedVec<'_, u64>, answers: &mut [bool])
     ensures among { AreAmong answers.old answers.new }
     ensures unlisted { AreUnlisted pairs.now answers.new }
 {
-    for place in 0..pairs.len() {
-        let second = (pairs.at(place) >> 21) % CODE_LIMIT;
+    for index in 0..pairs.len() {
+        let second = (pairs.at(index) >> 21) % CODE_LIMIT;
         refuse(answers, second as u32);
     }
 }
@@ -102,7 +102,7 @@ fn refuse_others(tables: &CanonicalTables<'_>, told: &[u32], answers: &mut [bool
     refuse_told(tables, told, answers);
 }
 
-/// The characters below U+10000 that are found to be steady. The only error is want of memory.
+/// The characters below U+10000 that are found to be steady. Fails only if memory is refused.
 pub(crate) fn steady_characters(
     alloc: Global,
     tables: &CanonicalTables<'_>,

@@ -84,40 +84,40 @@ fn untold_end(tables: &CanonicalTables<'_>, code: u32, end: u32) -> u32
     end_of_silence(plain_word(tables, code), code).min(end)
 }
 
-/// Whether the triple at a place is a code point's.
-fn is_listed(steps: &PackedVec<'_, u32>, place: usize, code: u32) -> bool
-    ensures inside { result ≡ true → 3 * place + 2 < length steps.now }
-    ensures fits { result ≡ true → 3 * place + 2 < 2 ^ 64 }
-    ensures key { result ≡ true → slice_index steps.now (3 * place) ≡ code }
-    ensures other { result ≡ false → 3 * place + 2 < length steps.now → slice_index steps.now (3 * place) ≢ code }
+/// Whether the triple at an index is a code point's.
+fn is_listed(steps: &PackedVec<'_, u32>, index: usize, code: u32) -> bool
+    ensures inside { result ≡ true → 3 * index + 2 < length steps.now }
+    ensures fits { result ≡ true → 3 * index + 2 < 2 ^ 64 }
+    ensures key { result ≡ true → slice_index steps.now (3 * index) ≡ code }
+    ensures other { result ≡ false → 3 * index + 2 < length steps.now → slice_index steps.now (3 * index) ≢ code }
 {
-    place < steps.len() / 3 && steps.at(3 * place) == code
+    index < steps.len() / 3 && steps.at(3 * index) == code
 }
 
-/// The key of the triple at a place, or the end where that comes first, where there is no triple or its key isn't
-/// behind the code point.
-fn next_key(steps: &PackedVec<'_, u32>, place: usize, code: u32, end: u32) -> u32
+/// The key of the triple at an index, or the end where that comes first, where there is no triple or its key isn't
+/// after the code point.
+fn next_key(steps: &PackedVec<'_, u32>, index: usize, code: u32, end: u32) -> u32
     requires { code < end }
     ensures after { code < result }
     ensures to { result ≤ end }
-    ensures key { 3 * place + 2 < length steps.now → code < slice_index steps.now (3 * place) → result ≤ slice_index steps.now (3 * place) }
+    ensures key { 3 * index + 2 < length steps.now → code < slice_index steps.now (3 * index) → result ≤ slice_index steps.now (3 * index) }
 {
-    if place >= steps.len() / 3 {
+    if index >= steps.len() / 3 {
         return end;
     }
-    let key = steps.at(3 * place);
+    let key = steps.at(3 * index);
     if code < key && key < end { key } else { end }
 }
 
-/// How far was told: to before a code point, and to before the triple at a place.
+/// How far was told: to before a code point, and to before the triple at an index.
 #[derive(Clone, Copy)]
 struct Reached {
     code: u32,
-    place: usize,
+    index: usize,
 }
 
 /// Tells of the next code point of a run, where there is something to be told of it; passes those of which there is
-/// nothing. The only error is want of memory.
+/// nothing. Fails only if memory is refused.
 fn tell_next(
     tables: &CanonicalTables<'_>,
     told: &mut Vec<u32>,
@@ -127,34 +127,34 @@ fn tell_next(
     requires order { reached.code < end }
     requires bound { end ≤ 0x110000 }
     requires run { IsRun tables.now reached.code end }
-    requires below { TellsBelow (lists_of tables.now) told.old.items reached.code reached.place }
+    requires below { TellsBelow (lists_of tables.now) told.old.items reached.code reached.index }
     ensures after { IfOk result (λ further. reached.code < further.code) }
     ensures to { IfOk result (λ further. further.code ≤ end) }
-    ensures below { IfOk result (λ further. TellsBelow (lists_of tables.now) told.new.items further.code further.place) }
+    ensures below { IfOk result (λ further. TellsBelow (lists_of tables.now) told.new.items further.code further.index) }
 {
-    let Reached { code, place } = reached;
-    if is_listed(&tables.steps, place, code) {
+    let Reached { code, index } = reached;
+    if is_listed(&tables.steps, index, code) {
         told.push(code)?;
         return Ok(Reached {
             code: code + 1,
-            place: place + 1,
+            index: index + 1,
         });
     }
-    let passed = untold_end(tables, code, next_key(&tables.steps, place, code, end));
+    let passed = untold_end(tables, code, next_key(&tables.steps, index, code, end));
     if passed == code {
         told.push(code)?;
         return Ok(Reached {
             code: code + 1,
-            place,
+            index,
         });
     }
     Ok(Reached {
         code: passed,
-        place,
+        index,
     })
 }
 
-/// Tells of the code points of a run. The only error is want of memory.
+/// Tells of the code points of a run. Fails only if memory is refused.
 fn tell_run(
     tables: &CanonicalTables<'_>,
     told: &mut Vec<u32>,
@@ -164,9 +164,9 @@ fn tell_run(
     requires order { reached.code < end }
     requires bound { end ≤ 0x110000 }
     requires run { IsRun tables.now reached.code end }
-    requires below { TellsBelow (lists_of tables.now) told.old.items reached.code reached.place }
+    requires below { TellsBelow (lists_of tables.now) told.old.items reached.code reached.index }
     ensures to { IfOk result (λ further. further.code ≡ end) }
-    ensures below { IfOk result (λ further. TellsBelow (lists_of tables.now) told.new.items further.code further.place) }
+    ensures below { IfOk result (λ further. TellsBelow (lists_of tables.now) told.new.items further.code further.index) }
 {
     let mut next = reached;
     while next.code < end {
@@ -176,13 +176,13 @@ fn tell_run(
 }
 
 /// The code points of which there is something to be told, and those of the triples where these rise. Runs of code
-/// points of one word are asked as one. The only error is want of memory.
+/// points of one word are asked as one. Fails only if memory is refused.
 #[tactic(auto, using(crate::proofs::faults::ToldLemmas::tells_none, crate::proofs::faults::ToldLemmas::end_is_run))]
 pub(crate) fn told(alloc: Global, tables: &CanonicalTables<'_>) -> Result<Vec<u32>, AllocError>
     ensures { IfOk result (λ told. Tells (lists_of tables.now) told.items) }
 {
     let mut told = Vec::new(alloc);
-    let mut reached = Reached { code: 0, place: 0 };
+    let mut reached = Reached { code: 0, index: 0 };
     while reached.code < 0x11_0000 {
         let end = tables.trie.cells_end(reached.code);
         reached = tell_run(tables, &mut told, reached, end)?;

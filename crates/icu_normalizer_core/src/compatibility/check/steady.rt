@@ -42,7 +42,7 @@ fn is_steady_code(canonical: &CanonicalData<'_>, words: Words<'_>, code: u32) ->
     }
 }
 
-/// The characters below U+10000 that are found to be steady. The only error is want of memory.
+/// The characters below U+10000 that are found to be steady. Fails only if memory is refused.
 pub(in crate::compatibility) fn steady_characters(
     alloc: Global,
     canonical: &CanonicalData<'_>,

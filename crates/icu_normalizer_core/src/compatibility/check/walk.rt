@@ -1,7 +1,7 @@
 //! The walk over the code points that looks for all kinds of faults at once.
 
 ghost use Rattle.std.specs.Prelude.{◌≡◌, ◌+◌, ◌<◌, ◌≤◌, ℕ, true, false, None, Some, MatchResult, IfOk, unwrap_or};
-ghost use Rattle.icu_codepointtrie.specs.Places.{value_at};
+ghost use Rattle.icu_codepointtrie.specs.Slots.{value_at};
 ghost use Rattle.icu_normalizer_core.specs.CanonicalFaults.{IsAccepted, IsLeastOffender};
 ghost use Rattle.icu_normalizer_core.specs.CanonicalMeaning.{lists_of};
 ghost use Rattle.icu_normalizer_core.specs.CanonicalWords.{plain_word};

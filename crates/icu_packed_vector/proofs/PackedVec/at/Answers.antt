@@ -5,5 +5,5 @@ use Rattle.icu_packed_vector.proofs.PackedVec.at.Goals as goal
 pub returns-clause-item : goal.returns-clause-item
 returns-clause-item g c = λ d.
     c.read_at.ensures.meaning
-    ∙ sym (ap (λ xs. get_or xs c.args.place d) c.as_bytes.ensures.same
-    ∙ get_or-items_of g.T.PackedItem.WIDTH g.T.PackedItem.meaning c.as_bytes.result.now c.args.place d (omega (arith, c.as_bytes.ensures.count)))
+    ∙ sym (ap (λ xs. get_or xs c.args.index d) c.as_bytes.ensures.same
+    ∙ get_or-items_of g.T.PackedItem.WIDTH g.T.PackedItem.meaning c.as_bytes.result.now c.args.index d (omega (arith, c.as_bytes.ensures.count)))

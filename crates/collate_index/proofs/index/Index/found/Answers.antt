@@ -1,5 +1,5 @@
 use Rattle.std.proofs.Common.{◌≡◌, ℕ, ◌<◌, ◌≤◌, ◌^◌, length, true, false, arith, sym, ◌∙◌, subst}
-use Rattle.collate_lists.specs.Search.{IsPlaceOf}
+use Rattle.collate_lists.specs.Search.{IsRankOf}
 use Rattle.collate_lists.proofs.NameSearchLemmas.{equal_part}
 use Rattle.collate_name_list.specs.StoredNames.{sorted}
 use Rattle.collate_index.specs.Catalogue.{order_of, sorted_names}
@@ -17,9 +17,9 @@ returns-clause-names c =
     let start : ℕ = c.range-start.result.0 in
     let end : ℕ = c.range-start.result.1 in
     let many : length (sorted c.self.inside.names) ≡ length (sorted_names c.args.self.now) = length_listed c.self.inside c.self.invariant c.args.self.now c.self.view_is in
-    let first : IsPlaceOf (λ other. order_of c.args.self.now other c.args.name.now) false (sorted_names c.args.self.now) start =
+    let first : IsRankOf (λ other. order_of c.args.self.now other c.args.name.now) false (sorted_names c.args.self.now) start =
     placed c.self.inside c.self.invariant c.args.self.now c.self.view_is c.args.name.now c.args.key.now c.requires false start (omega (arith, c.range-start.ensures.ordered, c.range-start.ensures.bound)) c.range-start.ensures.start in
-    let past : IsPlaceOf (λ other. order_of c.args.self.now other c.args.name.now) true (sorted_names c.args.self.now) end =
+    let past : IsRankOf (λ other. order_of c.args.self.now other c.args.name.now) true (sorted_names c.args.self.now) end =
     placed c.self.inside c.self.invariant c.args.self.now c.self.view_is c.args.name.now c.args.key.now c.requires true end c.range-start.ensures.bound c.range-start.ensures.end in
     c.range_between-names.ensures.same (sorted_names c.args.self.now) c.range-start.ensures.ordered
     ∙ equal_part (λ other. order_of c.args.self.now other c.args.name.now) (sorted_names c.args.self.now) start end c.range-start.ensures.ordered

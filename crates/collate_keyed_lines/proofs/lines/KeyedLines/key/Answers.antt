@@ -6,4 +6,4 @@ pub returns : goal.returns
 returns c =
     found_at c.self.inside c.self.invariant c.args.self.now c.self.view_is c.as_slice-2.result.now c.as_slice-3.result.now
     c.as_slice-2.ensures.value c.as_slice-3.ensures.value (λ (line : KeyedLine). line.key) c.as_slice.result.now c.as_slice.ensures.value
-    c.args.place c.in_ok-slot.slot c.key_of.result.now c.key_of.ensures c.in_ok-slot.ensures
+    c.args.index c.in_ok-slot.slot c.key_of.result.now c.key_of.ensures c.in_ok-slot.ensures

@@ -1,5 +1,5 @@
 use Rattle.std.proofs.Common.{◌≡◌, ◌∙◌, ap, nat_cmp}
-use Rattle.collate_lists.proofs.PlaceFrontLemmas.{fronts_tell}
+use Rattle.collate_lists.proofs.SlotFrontLemmas.{fronts_tell}
 use Rattle.collate_lists.proofs.fronts.Front.compare.Goals as goal
 
 pub returns-in_default-clause-told : goal.returns-in_default-clause-told

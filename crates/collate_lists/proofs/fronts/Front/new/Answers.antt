@@ -1,7 +1,7 @@
 use Rattle.std.proofs.Common.{◌≡◌, ◌∙◌, ◌<◌, subst, arith}
 use Rattle.std.specs.Int.{w64, from_be_bytes}
 use Rattle.std.proofs.lemmas.List.{get_or_default}
-use Rattle.collate_lists.proofs.PlaceFrontLemmas.{read_front}
+use Rattle.collate_lists.proofs.SlotFrontLemmas.{read_front}
 use Rattle.collate_lists.proofs.fronts.Front.new.Goals as goal
 
 pub returns : goal.returns

@@ -1,6 +1,6 @@
 use Rattle.std.proofs.Common.{◌+◌, ◌<◌, All, length, drop, sym, ap, subst, arith}
 use Rattle.collate_lists.proofs.Rows.{length-starts_from}
-use Rattle.collate_lists.proofs.Places.{raise_ready}
+use Rattle.collate_lists.proofs.PartIndices.{raise_ready}
 use Rattle.collate_lists.proofs.parts.Parts.put_at.Goals as goal
 
 pub raise-requires-clause-within : goal.raise-requires-clause-within

@@ -1,7 +1,7 @@
 use Rattle.std.proofs.Common.{◌≡◌, ◌+◌, length, insert, sym, ap, ◌∙◌, arith, slice_index}
 use Rattle.collate_lists.specs.Lists.{starts_of}
 use Rattle.collate_lists.proofs.Rows.{length-starts_from, list_ends}
-use Rattle.collate_lists.proofs.Places.{free_in_halves}
+use Rattle.collate_lists.proofs.PartIndices.{free_in_halves}
 use Rattle.collate_lists.proofs.parts.Parts.split.Goals as goal
 
 pub at-start-requires : goal.at-start-requires
@@ -32,8 +32,8 @@ returns-clause-sound c =
 
 pub returns-clause-lower : goal.returns-clause-lower
 returns-clause-lower c =
-    λ rank place at. (free_in_halves c.args.self.now.lists.items c.halve.new.lists.items c.args.part place rank 256 (omega arith) c.requires.full c.halve.ensures.starts c.halve.ensures.lengths at).0
+    λ rank index at. (free_in_halves c.args.self.now.lists.items c.halve.new.lists.items c.args.part index rank 256 (omega arith) c.requires.full c.halve.ensures.starts c.halve.ensures.lengths at).0
 
 pub returns-clause-upper : goal.returns-clause-upper
 returns-clause-upper c =
-    λ rank place at. (free_in_halves c.args.self.now.lists.items c.halve.new.lists.items c.args.part place rank 256 (omega arith) c.requires.full c.halve.ensures.starts c.halve.ensures.lengths at).1
+    λ rank index at. (free_in_halves c.args.self.now.lists.items c.halve.new.lists.items c.args.part index rank 256 (omega arith) c.requires.full c.halve.ensures.starts c.halve.ensures.lengths at).1

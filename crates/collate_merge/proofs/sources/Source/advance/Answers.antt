@@ -23,7 +23,7 @@ returns-then-is_above g c = λ m all more same h.
       left = tt;
       fault = below_line g.R.Read.remaining m all c.args.self.now c.read.new.self more h left accepted c.direction.result
           (c.direction.ensures ∙ sym (ap (λ (r : LineRule). r.direction) same.0)) c.deref.result.now c.deref-2.result.now previous_is c.deref-2.ensures.value c.if-self.false
-          c.args.place c.is_above.result c.is_above.ensures c.if-is_above.true;
+          c.args.index c.is_above.result c.is_above.ensures c.if-is_above.true;
     }
 
 pub returns : goal.returns

@@ -4,9 +4,9 @@ use Rattle.std.specs.Vec.{with_item}
 use Rattle.std.proofs.lemmas.List.{length-map}
 use Rattle.std.proofs.lemmas.Option.{slice_get_within}
 use Rattle.collate_name_list.specs.StoredNames.{StoredName, names_of, without}
-use Rattle.collate_name_list.specs.Slots.{IsFull, places_of, entry_at, entries, hash_in, hashes_in}
+use Rattle.collate_name_list.specs.Slots.{IsFull, slots_of, entry_at, entries, hash_in, hashes_in}
 use Rattle.collate_name_list.specs.declared.slots.Stored.{Stored}
-use Rattle.collate_name_list.proofs.FrontedLemmas.{length_places}
+use Rattle.collate_name_list.proofs.FrontedLemmas.{length_fronted}
 use Rattle.collate_name_list.proofs.SlotLemmas.{full_below}
 use Rattle.collate_name_list.proofs.NameListEntryLemmas.{entries_without, name_there}
 use Rattle.collate_name_list.proofs.KeptLemmas.{kept_remove, without_absent}
@@ -16,7 +16,7 @@ pub slot_of_name-requires-clause-hashes : goal.slot_of_name-requires-clause-hash
 slot_of_name-requires-clause-hashes c = c.self.invariant.hashes ∙ sym (ap (hashes_in c.self.inside.hashes.seed) c.as_slice-slots.ensures.value)
 
 pub remove-requires : goal.remove-requires
-remove-requires c = omega (arith, slice_get_within (places_of c.self.inside.by_key) c.place_of_slot-keyed.result c.in-Some.slot c.place_of_slot-keyed.ensures, length_places c.self.inside.by_key)
+remove-requires c = omega (arith, slice_get_within (slots_of c.self.inside.by_key) c.rank_of_slot-keyed.result c.in-Some.slot c.rank_of_slot-keyed.ensures, length_fronted c.self.inside.by_key)
 
 pub take_out-requires : goal.take_out-requires
 take_out-requires c =
@@ -32,8 +32,8 @@ pub invariant_of-self : goal.invariant_of-self
 invariant_of-self c =
     let full : IsFull c.self.inside.slots.items c.in-Some.slot = subst (λ (slots : List (Option Stored)). IsFull slots c.in-Some.slot) c.as_slice-slots.ensures.value c.in-Some.ensures.full in
     kept_remove c.self.inside (record { alloc = c.self.inside.alloc; slots = with_item c.self.inside.slots c.in-Some.slot None; by_key = c.remove.new.self; hashes = c.take_out.new.self })
-    c.in-Some.slot c.place_of_slot-keyed.result c.self.invariant refl c.remove.ensures.removed c.take_out.ensures.hashes c.take_out.ensures.seed
-    full c.place_of_slot-keyed.ensures
+    c.in-Some.slot c.rank_of_slot-keyed.result c.self.invariant refl c.remove.ensures.removed c.take_out.ensures.hashes c.take_out.ensures.seed
+    full c.rank_of_slot-keyed.ensures
 
 pub returns-in-Some-clause-removed : goal.returns-in-Some-clause-removed
 returns-in-Some-clause-removed c =

@@ -5,8 +5,8 @@ use Rattle.collate_words.proofs.pools.Pools.write_context.Goals as goal
 
 pub returns-clause-says : goal.returns-clause-says
 returns-clause-says c =
-    let at_end : c.len-place.result ≡ length c.self.inside.contexts.items = search rules in
-    context_appended c.self.inside.contexts.items c.append_context.new.contexts.items c.len-place.result
+    let at_end : c.len-index.result ≡ length c.self.inside.contexts.items = search rules in
+    context_appended c.self.inside.contexts.items c.append_context.new.contexts.items c.len-index.result
     c.args.default c.in_ok-units.units.items
     (map pair_of c.args.keys.items) at_end
     (c.in_ok-append_context.ensures.units

@@ -10,11 +10,11 @@ use Rattle.collate_words.proofs.pools.Pools.write_keys.Goals as goal
 pub write_own-requires-clause-room : goal.write_own-requires-clause-room
 write_own-requires-clause-room c =
     let besides = c.args.besides.now in
-    let place = c.loop-beside.beside-index in
-    room_beside (element_sum (map said_beside besides)) (length besides) (element_sum (map said_beside (take place besides)))
+    let index = c.loop-beside.beside-index in
+    room_beside (element_sum (map said_beside besides)) (length besides) (element_sum (map said_beside (take index besides)))
     _ c.args.self.now c.loop-beside.self
     c.requires.room c.loop-beside.invariant.size
-    (elements_within besides place no_beside c.loop-beside-test.true)
+    (elements_within besides index no_beside c.loop-beside-test.true)
 
 pub write_own-requires-clause-fit : goal.write_own-requires-clause-fit
 write_own-requires-clause-fit c =
@@ -48,9 +48,9 @@ returns-in_err-push-clause-size c =
 
 pub loop-beside-preserved : goal.loop-beside-preserved
 loop-beside-preserved c =
-    let place = c.loop-beside.beside-index in
+    let index = c.loop-beside.beside-index in
     let inside = c.loop-beside-test.true in
-    let beside = slice_index_or c.args.besides.now place no_beside in
+    let beside = slice_index_or c.args.besides.now index no_beside in
     let key : ContextKey = record { units = c.in_ok-units.units; word = c.in_ok-word.word } in
     let before = c.loop-beside.keys.items in
     let after = c.push.new.self.items in
@@ -59,13 +59,13 @@ loop-beside-preserved c =
       grows = Grows-trans c.args.self.now c.loop-beside.self c.write_own.new.self c.loop-beside.invariant.grows grown;
       contexts = c.write_own.ensures.contexts ∙ c.loop-beside.invariant.contexts;
       size = grows_for_along _ _ _ c.args.self.now c.loop-beside.self c.write_own.new.self
-          c.loop-beside.invariant.size c.write_own.ensures.size (elements_more c.args.besides.now place no_beside inside);
-      count = pushed_count before after key place c.in_ok-push.ensures.items c.loop-beside.invariant.count;
+          c.loop-beside.invariant.size c.write_own.ensures.size (elements_more c.args.besides.now index no_beside inside);
+      count = pushed_count before after key index c.in_ok-push.ensures.items c.loop-beside.invariant.count;
       fit = pushed_fit before after key c.in_ok-push.ensures.items c.loop-beside.invariant.fit
           (key_fits c.args.backward (said_beside beside) key
-          (beside_at 7 c.args.besides.now place no_beside inside c.requires.beside)
+          (beside_at 7 c.args.besides.now index no_beside inside c.requires.beside)
           c.in_ok-units.ensures c.in_ok-word.ensures.says.fits);
-      says = pushed_keys c.loop-beside.self c.write_own.new.self c.args.backward grown c.args.besides.now place
+      says = pushed_keys c.loop-beside.self c.write_own.new.self c.args.backward grown c.args.besides.now index
           no_beside inside before after key
           c.in_ok-push.ensures.items c.loop-beside.invariant.says
           (record { units = c.in_ok-units.ensures; word = c.in_ok-word.ensures.says });

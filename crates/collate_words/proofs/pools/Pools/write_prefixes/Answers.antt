@@ -21,13 +21,13 @@ returns-clause-says c =
       values =
           c.values_stay_in_longer_units.ensures.values;
     })
-    c.args.self.now c.write_keys.new.self c.write_context.new.self c.in_ok-place.place c.prefix_word.result
+    c.args.self.now c.write_keys.new.self c.write_context.new.self c.in_ok-index.index c.prefix_word.result
     c.args.behind c.args.prefixes.now
     (map pair_of c.in_ok-keys.keys.items)
     (Grows-trans c.args.self.now c.write_keys.new.self c.write_context.new.self c.write_keys.ensures.grows grown) grown
-    c.prefix_word.ensures.fits c.prefix_word.ensures.place c.prefix_word.ensures.low c.requires.beside
+    c.prefix_word.ensures.fits c.prefix_word.ensures.index c.prefix_word.ensures.low c.requires.beside
     (some_counted (length c.args.prefixes.now) c.is_empty.result c.is_empty.ensures c.if-is_empty.false)
-    c.in_ok-place.ensures.says c.in_ok-keys.ensures.says
+    c.in_ok-index.ensures.says c.in_ok-keys.ensures.says
 
 pub write_context-requires-clause-once : goal.write_context-requires-clause-once
 write_context-requires-clause-once c =

@@ -14,13 +14,13 @@ returns-then-is_empty-clause-says c =
 pub returns-clause-says : goal.returns-clause-says
 returns-clause-says c =
     let grown = c.write_context.ensures.grows in
-    suffixes_written c.args.self.now c.write_keys.new.self c.write_context.new.self c.in_ok-place.place
+    suffixes_written c.args.self.now c.write_keys.new.self c.write_context.new.self c.in_ok-index.index
     c.contraction_word.result c.args.own
     c.args.suffixes.now c.args.flags (map pair_of c.in_ok-keys.keys.items)
     (Grows-trans c.args.self.now c.write_keys.new.self c.write_context.new.self c.write_keys.ensures.grows grown) grown
     c.contraction_word.ensures.fits c.contraction_word.ensures.fields c.requires.beside
     (some_counted (length c.args.suffixes.now) c.is_empty.result c.is_empty.ensures c.if-is_empty.false)
-    c.in_ok-place.ensures.says c.in_ok-keys.ensures.says
+    c.in_ok-index.ensures.says c.in_ok-keys.ensures.says
 
 pub write_context-requires-clause-once : goal.write_context-requires-clause-once
 write_context-requires-clause-once c =

@@ -2,6 +2,6 @@ use Rattle.std.proofs.Common.{◌≡◌, ℕ, ◌+◌, ◌*◌, ◌<◌, map}
 use Rattle.std.specs.Prelude.{slice_index, IsTrue, ◌↔◌}
 use Rattle.icu_codepointtrie.proofs.builder.blocks.are_alike.Given as goal
 
-abbrev pub invariant-loop-place : goal.invariant-loop-place
-invariant-loop-place g l =
-    IsTrue l.alike ↔ ((k : ℕ) → k < l.place → slice_index (map g.T.TrieValue.number l.values) (l.one * l.width + k) ≡ slice_index (map g.T.TrieValue.number l.values) (l.other * l.width + k))
+abbrev pub invariant-loop-slot : goal.invariant-loop-slot
+invariant-loop-slot g l =
+    IsTrue l.alike ↔ ((k : ℕ) → k < l.slot → slice_index (map g.T.TrieValue.number l.values) (l.one * l.width + k) ≡ slice_index (map g.T.TrieValue.number l.values) (l.other * l.width + k))

@@ -4,4 +4,4 @@ use Rattle.icu_codepointtrie.proofs.builder.cells.put_after.Given as goal
 
 abbrev pub invariant-loop-i : goal.invariant-loop-i
 invariant-loop-i g l =
-    IsPutting (map g.T.TrieValue.number l.values) l.first (map g.T.TrieValue.number l.fn.cells.items) (map g.T.TrieValue.number l.cells.items) l.place l.i
+    IsPutting (map g.T.TrieValue.number l.values) l.first (map g.T.TrieValue.number l.fn.cells.items) (map g.T.TrieValue.number l.cells.items) l.slot l.i

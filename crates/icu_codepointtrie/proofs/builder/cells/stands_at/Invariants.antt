@@ -4,4 +4,4 @@ use Rattle.icu_codepointtrie.proofs.builder.cells.stands_at.Given as goal
 
 abbrev pub invariant-loop-i : goal.invariant-loop-i
 invariant-loop-i g l =
-    (k : ℕ) → k < l.i → slice_index (map g.T.TrieValue.number l.cells) (l.place + k) ≡ slice_index (map g.T.TrieValue.number l.values) (l.first + k)
+    (k : ℕ) → k < l.i → slice_index (map g.T.TrieValue.number l.cells) (l.slot + k) ≡ slice_index (map g.T.TrieValue.number l.values) (l.first + k)

@@ -16,5 +16,5 @@ returns-clause-kept g c =
 
 pub returns-clause-found : goal.returns-clause-found
 returns-clause-found g c q =
-    rw c.in_ok-push.ensures.items (IsFound-push c.args.width (map g.T.TrieValue.number c.args.values.now) c.args.kept.now.items c.args.number c.len-place.result q.numbers.items c.in_ok-block.block.numbers.items
+    rw c.in_ok-push.ensures.items (IsFound-push c.args.width (map g.T.TrieValue.number c.args.values.now) c.args.kept.now.items c.args.number c.len-slot.result q.numbers.items c.in_ok-block.block.numbers.items
     (get has_same_numbers c.args.found.now q) _ c.in_ok-block.ensures (omega arith) (c.in_ok-insert.ensures.updates.0 q) (c.requires.found q))

@@ -7,6 +7,6 @@ loop-block-preserved c =
     let grown = c.in_ok-entry.ensures.grown in
     record {
       count = search rules;
-      gives = rw c.in_ok-push.ensures.items (gives_push c.args.start c.loop-block.cells.items c.put_third.new.cells.items c.loop-block.entries.items c.args.places.now c.args.kept.now c.args.first c.loop-block.block-index c.in_ok-entry.entry 36 c.loop-block.invariant.count grown c.loop-block.invariant.gives c.in_ok-entry.ensures.gives);
+      gives = rw c.in_ok-push.ensures.items (gives_push c.args.start c.loop-block.cells.items c.put_third.new.cells.items c.loop-block.entries.items c.args.slots.now c.args.kept.now c.args.first c.loop-block.block-index c.in_ok-entry.entry 36 c.loop-block.invariant.count grown c.loop-block.invariant.gives c.in_ok-entry.ensures.gives);
       few = omega (arith, grown.few);
     }

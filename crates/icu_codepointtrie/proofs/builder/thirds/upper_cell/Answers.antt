@@ -16,8 +16,8 @@ overflow_add-cell-in-loop-number c = omega (arith, four_bound c.loop-number.numb
 pub loop-number-preserved : goal.loop-number-preserved
 loop-number-preserved c =
     let small = c.requires.small (c.args.first + c.loop-number.number) (omega arith) in
-    let more = joined_more (λ i. slice_index c.args.places.now (c.args.first + i) / 2 ^ 16) c.loop-number.number in
-    (rw (more, ← c.loop-number.invariant.0) refl, four_more c.loop-number.number c.loop-number.cell (slice_index c.args.places.now (c.args.first + c.loop-number.number) / 65536) c.loop-number.invariant.1 (omega arith))
+    let more = joined_more (λ i. slice_index c.args.slots.now (c.args.first + i) / 2 ^ 16) c.loop-number.number in
+    (rw (more, ← c.loop-number.invariant.0) refl, four_more c.loop-number.number c.loop-number.cell (slice_index c.args.slots.now (c.args.first + c.loop-number.number) / 65536) c.loop-number.invariant.1 (omega arith))
 
 pub returns-clause-cell : goal.returns-clause-cell
 unfolding upper_cell

@@ -3,8 +3,8 @@ use Rattle.toml.specs.View.{items_view}
 use Rattle.icu_codepointtrie.specs.TomlTables.{values_in, integers_of}
 use Rattle.icu_codepointtrie.proofs.toml_text.write.integers_of.Given as goal
 
-abbrev pub invariant-loop-place : goal.invariant-loop-place
-invariant-loop-place g l = record {
-  integers : items_view l.array.items ≡ integers_of g.T.TrieValue.number (take l.place l.values);
-  reads_back : values_in g.T.TrieValue.of_number (items_view l.array.items) ≡ Some (take l.place l.values);
+abbrev pub invariant-loop-slot : goal.invariant-loop-slot
+invariant-loop-slot g l = record {
+  integers : items_view l.array.items ≡ integers_of g.T.TrieValue.number (take l.slot l.values);
+  reads_back : values_in g.T.TrieValue.of_number (items_view l.array.items) ≡ Some (take l.slot l.values);
 }

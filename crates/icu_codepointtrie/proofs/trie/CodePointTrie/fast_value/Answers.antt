@@ -1,4 +1,4 @@
-use Rattle.icu_codepointtrie.proofs.tables.FastPlaceLemmas.{value_at_fast}
+use Rattle.icu_codepointtrie.proofs.tables.FastSlotLemmas.{value_at_fast}
 use Rattle.icu_codepointtrie.proofs.trie.CodePointTrie.fast_value.Goals as goal
 
 pub returns-clause-value : goal.returns-clause-value

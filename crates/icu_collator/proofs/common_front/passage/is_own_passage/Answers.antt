@@ -3,7 +3,7 @@ use Rattle.std.specs.Char.{IsScalar}
 use Rattle.std.proofs.lemmas.Bool.{ne_eqb}
 use Rattle.icu_normalizer_core.specs.Canonical.{IsDecomposing}
 use Rattle.icu_normalizer_core.specs.CanonicalMeaning.{meaning}
-use Rattle.icu_collator.proofs.boundaries.ReadingPlaceLemmas.{open_beginning}
+use Rattle.icu_collator.proofs.boundaries.ReadingStartLemmas.{open_beginning}
 use Rattle.icu_collator.proofs.common_front.passage.is_own_passage.Goals as goal
 
 pub returns : goal.returns

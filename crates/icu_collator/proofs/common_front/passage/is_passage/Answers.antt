@@ -1,7 +1,7 @@
 use Rattle.std.proofs.Common.{◌≡◌, ◌∷◌, subst}
 use Rattle.std.proofs.lemmas.Bool.{ne_eqb}
 use Rattle.icu_normalizer_core.specs.CanonicalMeaning.{meaning}
-use Rattle.icu_collator.proofs.boundaries.ReadingPlaceLemmas.{open_passage}
+use Rattle.icu_collator.proofs.boundaries.ReadingStartLemmas.{open_passage}
 use Rattle.icu_collator.proofs.common_front.passage.is_passage.Goals as goal
 
 pub returns-then-first-ne771 : goal.returns-then-first-ne771

@@ -21,16 +21,16 @@ loop-c-preserved g c = λ text h.
     elim c.match-passage_at.branch [
       | in-Open w ↦
           rw (w.earlier-is, w.latest-is)
-          (search_passes steps Passes Goes text c.args.common c.loop-c.place c.loop-c.read c.loop-c.earlier c.loop-c.latest c.in-Some.c it next so c.in-Some.ensures.steps
-          (c.passage_at.ensures.open w.in-Open.is) c.if-read-common.false c.match-passage_at.place (w.place-is ∙ w.unwrap_or-place.ensures))
+          (search_passes steps Passes Goes text c.args.common c.loop-c.index c.loop-c.read c.loop-c.earlier c.loop-c.latest c.in-Some.c it next so c.in-Some.ensures.steps
+          (c.passage_at.ensures.open w.in-Open.is) c.if-read-common.false c.match-passage_at.index (w.index-is ∙ w.unwrap_or-index.ensures))
       | in-GoesOn w ↦
-          rw (w.place-is, w.earlier-is, w.latest-is)
-          (search_goes_on steps Passes Goes text c.args.common c.loop-c.place c.loop-c.read c.loop-c.earlier c.loop-c.latest c.in-Some.c it next so c.in-Some.ensures.steps
+          rw (w.index-is, w.earlier-is, w.latest-is)
+          (search_goes_on steps Passes Goes text c.args.common c.loop-c.index c.loop-c.read c.loop-c.earlier c.loop-c.latest c.in-Some.c it next so c.in-Some.ensures.steps
           (c.passage_at.ensures.goes_on w.in-GoesOn.is))
       | in-Closed w ↦
-          rw (w.place-is, w.earlier-is, w.latest-is)
-          (search_anew steps Passes Goes text c.args.common c.loop-c.place c.loop-c.read c.loop-c.earlier c.loop-c.latest c.in-Some.c it next so c.in-Some.ensures.steps)
+          rw (w.index-is, w.earlier-is, w.latest-is)
+          (search_anew steps Passes Goes text c.args.common c.loop-c.index c.loop-c.read c.loop-c.earlier c.loop-c.latest c.in-Some.c it next so c.in-Some.ensures.steps)
     ]
 
 pub returns : goal.returns
-returns g c = λ text h. (c.loop-c.invariant text h).is_place
+returns g c = λ text h. (c.loop-c.invariant text h).is_index

@@ -5,8 +5,8 @@ pub returns : goal.returns
 returns g c =
     let left = g.T.Characters.characters c.args.left in
     let right = g.U.Characters.characters c.args.right in
-    let place = c.args.place in
-    c.in_ok-order.ensures (drop place left) (drop place right)
+    let index = c.args.index in
+    c.in_ok-order.ensures (drop index left) (drop index right)
     (c.behind-lefts.ensures.text left c.chars.ensures.spelled c.requires.left_reaches)
     (c.behind-rights.ensures.text right c.chars-2.ensures.spelled c.requires.right_reaches)
 

@@ -5,8 +5,8 @@ use Rattle.icu_collator.proofs.compare.flat_texts.compare_kept.Goals as goal
 
 pub returns : goal.returns
 returns g c =
-    let a = drop c.args.place (g.T.Characters.characters c.args.left) in
-    let b = drop c.args.place (g.U.Characters.characters c.args.right) in
+    let a = drop c.args.index (g.T.Characters.characters c.args.left) in
+    let b = drop c.args.index (g.U.Characters.characters c.args.right) in
     let left_read : c.in_ok-read_kept.field-0 ≡ true = search rules in
     let right_read : c.in_ok-read_kept-2.field-0 ≡ true = search rules in
     let lefts = ap unpacked c.as_slice.ensures ∙ c.in_ok-read_kept.ensures left_read in

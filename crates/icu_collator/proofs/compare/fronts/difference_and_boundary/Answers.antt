@@ -58,13 +58,13 @@ common-preserved g c =
       boundary = λ a b h k.
           ⊎_elim
           (λ here.
-          subst (λ (bd : CommonBoundary g.row.I.Denot g.row.J.Denot). BeginAt c.args.checked.now g.I.Iterator.next_gives g.J.Iterator.next_gives a b bd.place bd.left bd.right) (sym here.0)
+          subst (λ (bd : CommonBoundary g.row.I.Denot g.row.J.Denot). BeginAt c.args.checked.now g.I.Iterator.next_gives g.J.Iterator.next_gives a b bd.index bd.left bd.right) (sym here.0)
           (subst (λ it. BeginAt c.args.checked.now g.I.Iterator.next_gives g.J.Iterator.next_gives a b c.common.common it c.again-in-common-2.result) (sym again)
           (subst (λ it. BeginAt c.args.checked.now g.I.Iterator.next_gives g.J.Iterator.next_gives a b c.common.common c.common.left it) (sym also)
           (begin_there g.I.Iterator.next_gives g.J.Iterator.next_gives a b c.args.checked.now c.common.common c.common.left c.next.new.self c.common.right c.next-second.new.self c.in-Some.c c.in-Some-second.d
           (inv.agree a b h k) c.in-Some.ensures.steps c.in-Some-second.ensures.steps c.if-c-d.false here.1))))
           (λ old.
-          subst (λ (bd : CommonBoundary g.row.I.Denot g.row.J.Denot). BeginAt c.args.checked.now g.I.Iterator.next_gives g.J.Iterator.next_gives a b bd.place bd.left bd.right) (sym old)
+          subst (λ (bd : CommonBoundary g.row.I.Denot g.row.J.Denot). BeginAt c.args.checked.now g.I.Iterator.next_gives g.J.Iterator.next_gives a b bd.index bd.left bd.right) (sym old)
           (inv.boundary a b h k))
           chosen;
       kept_left_can =

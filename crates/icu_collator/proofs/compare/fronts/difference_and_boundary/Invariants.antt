@@ -14,7 +14,7 @@ invariant-common g l = record {
   agree : (a b : List ℕ) → Spells g.I.Iterator.next_gives l.fn.left a → Spells g.J.Iterator.next_gives l.fn.right b
       → AgreeFrom g.I.Iterator.next_gives g.J.Iterator.next_gives a b l.common l.left l.right;
   boundary : (a b : List ℕ) → Spells g.I.Iterator.next_gives l.fn.left a → Spells g.J.Iterator.next_gives l.fn.right b
-      → BeginAt l.checked g.I.Iterator.next_gives g.J.Iterator.next_gives a b l.boundary.place l.boundary.left l.boundary.right;
+      → BeginAt l.checked g.I.Iterator.next_gives g.J.Iterator.next_gives a b l.boundary.index l.boundary.left l.boundary.right;
   kept_left_can : g.I.Iterator.can_next l.boundary.left;
   kept_left_ends : IsFinite (g.I.Iterator.remaining l.boundary.left);
   kept_right_can : g.J.Iterator.can_next l.boundary.right;

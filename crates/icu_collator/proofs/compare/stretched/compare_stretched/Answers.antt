@@ -16,7 +16,7 @@ returns-in-Parted g c = λ a b ok also begins.
     let source = c.args.checked.now in
     let options = c.args.options.now in
     let at = c.args.boundary in
-    run_decides source options g.I.Iterator.next_gives g.J.Iterator.next_gives at.left at.right c.race.new.lefts c.race.new.rights a b at.place ok also begins c.in-Parted.order
+    run_decides source options g.I.Iterator.next_gives g.J.Iterator.next_gives at.left at.right c.race.new.lefts c.race.new.rights a b at.index ok also begins c.in-Parted.order
     (subst (λ (said : Meeting). Runs source options g.I.Iterator.next_gives g.J.Iterator.next_gives at.left at.right c.race.new.lefts c.race.new.rights said) c.in-Parted.is c.in_ok-order.ensures)
 
 pub returns-in-BothEnd : goal.returns-in-BothEnd
@@ -27,8 +27,8 @@ returns-in-BothEnd g c =
     let runs = subst (λ (said : Meeting). Runs source options g.I.Iterator.next_gives g.J.Iterator.next_gives at.left at.right c.race.new.lefts c.race.new.rights said) c.in-BothEnd.is c.in_ok-order.ensures in
     some_so c.in_ok-answer-in-BothEnd.answer c.in_ok-answer-in-BothEnd.ensures
     (λ order said a b ok also begins.
-    said begins.front a b (λ whole. begins.whole ((Decides-eqb at.place 0).0 whole))
+    said begins.front a b (λ whole. begins.whole ((Decides-eqb at.index 0).0 whole))
     (subst (λ (xs : List ℕ). AreElementsBehind (source_collation source) options begins.front a xs) (sym c.settled.ensures)
-    (run_left source options g.I.Iterator.next_gives g.J.Iterator.next_gives at.left at.right c.race.new.lefts c.race.new.rights a b at.place ok also begins runs))
+    (run_left source options g.I.Iterator.next_gives g.J.Iterator.next_gives at.left at.right c.race.new.lefts c.race.new.rights a b at.index ok also begins runs))
     (subst (λ (xs : List ℕ). AreElementsBehind (source_collation source) options begins.front b xs) (sym c.settled-in-BothEnd.ensures)
-    (run_right source options g.I.Iterator.next_gives g.J.Iterator.next_gives at.left at.right c.race.new.lefts c.race.new.rights a b at.place ok also begins runs)))
+    (run_right source options g.I.Iterator.next_gives g.J.Iterator.next_gives at.left at.right c.race.new.lefts c.race.new.rights a b at.index ok also begins runs)))

@@ -13,8 +13,8 @@ returns-in-Some-clause-next g c = λ text ok h before.
     let r = c.loop-turn.invariant.read text ok h in
     let there = c.settled-settled.ensures in (
       r.0,
-      subst (λ (xs : List ℕ). c.in-Some.place ≤ length xs) there c.in-Some.ensures.within,
-      subst (λ (xs : List ℕ). counted_primaries c.args.end (take c.in-Some.place xs) ≡ counted_primaries c.args.end (take c.args.met xs) ++ c.in-Some.primary ∷ []) there c.in-Some.ensures.primary
+      subst (λ (xs : List ℕ). c.in-Some.index ≤ length xs) there c.in-Some.ensures.within,
+      subst (λ (xs : List ℕ). counted_primaries c.args.end (take c.in-Some.index xs) ≡ counted_primaries c.args.end (take c.args.met xs) ++ c.in-Some.primary ∷ []) there c.in-Some.ensures.primary
           ∙ ap (λ (ps : List ℕ). ps ++ c.in-Some.primary ∷ []) r.2,
     )
 
@@ -25,7 +25,7 @@ pub returns-in-Some-clause-finite : goal.returns-in-Some-clause-finite
 returns-in-Some-clause-finite g c = λ p is unended. c.loop-turn.invariant.finite unended
 
 pub returns-in-Some-clause-within : goal.returns-in-Some-clause-within
-returns-in-Some-clause-within g c = λ p is. subst (λ (xs : List ℕ). c.in-Some.place ≤ length xs) c.settled-settled.ensures c.in-Some.ensures.within
+returns-in-Some-clause-within g c = λ p is. subst (λ (xs : List ℕ). c.in-Some.index ≤ length xs) c.settled-settled.ensures c.in-Some.ensures.within
 
 pub returns-then-is_ended-clause-next : goal.returns-then-is_ended-clause-next
 returns-then-is_ended-clause-next g c = λ text ok h before.

@@ -6,27 +6,27 @@ use Rattle.icu_collator.proofs.key_bytes.cases.write_pairs.Goals as goal
 pub pairs-preserved : goal.pairs-preserved
 pairs-preserved c =
     let halves = c.args.halves.now in
-    let place = c.pairs.place in
+    let index = c.pairs.index in
     let more = c.pairs-test.true in
-    let inside : place + 1 < length halves = omega (arith, more) in
+    let inside : index + 1 < length halves = omega (arith, more) in
     record {
       within = omega (arith, inside);
-      level = pair_written halves place (c.args.key.now.items ++ paired_halves halves) c.pairs.key.items c.push.new.self.items inside
+      level = pair_written halves index (c.args.key.now.items ++ paired_halves halves) c.pairs.key.items c.push.new.self.items inside
           c.pairs.invariant.level c.in_ok-push.ensures.ok;
     }
 
 pub returns-in_ok-push-2 : goal.returns-in_ok-push-2
 returns-in_ok-push-2 c =
     let halves = c.args.halves.now in
-    let place = c.pairs.place in
+    let index = c.pairs.index in
     let few = c.pairs-test.false in
-    let some = c.if-place-halves.true in
-    let last : place + 1 ≡ length halves = omega (arith, few, some) in
-    half_written halves place (c.args.key.now.items ++ paired_halves halves) c.pairs.key.items c.push-then-place-halves.new.self.items last
+    let some = c.if-index-halves.true in
+    let last : index + 1 ≡ length halves = omega (arith, few, some) in
+    half_written halves index (c.args.key.now.items ++ paired_halves halves) c.pairs.key.items c.push-then-index-halves.new.self.items last
     c.pairs.invariant.level c.in_ok-push-2.ensures.ok
 
-pub returns-else-place-halves : goal.returns-else-place-halves
-returns-else-place-halves c =
+pub returns-else-index-halves : goal.returns-else-index-halves
+returns-else-index-halves c =
     let halves = c.args.halves.now in
-    let none = c.if-place-halves.false in
-    pairs_end halves c.pairs.place (c.args.key.now.items ++ paired_halves halves) c.pairs.key.items (omega (arith, none)) c.pairs.invariant.level
+    let none = c.if-index-halves.false in
+    pairs_end halves c.pairs.index (c.args.key.now.items ++ paired_halves halves) c.pairs.key.items (omega (arith, none)) c.pairs.invariant.level

@@ -4,9 +4,9 @@ use Rattle.icu_collator.proofs.key_bytes.cases.write_pairs.Given as goal
 
 abbrev pub invariant-pairs : goal.invariant-pairs
 invariant-pairs l = record {
-  within : l.place ≤ length l.halves;
-  level : l.key.items ++ paired_halves (drop l.place l.halves) ≡ l.initial.key.items ++ paired_halves l.halves;
+  within : l.index ≤ length l.halves;
+  level : l.key.items ++ paired_halves (drop l.index l.halves) ≡ l.initial.key.items ++ paired_halves l.halves;
 }
 
 abbrev pub decreases-pairs : goal.decreases-pairs
-decreases-pairs l = length l.halves - l.place
+decreases-pairs l = length l.halves - l.index

@@ -29,7 +29,7 @@ returns-then-behind-elements c =
 pub returns : goal.returns
 returns c =
     let collation = source_collation c.args.checked.now in
-    let past : length c.args.elements.now ≤ c.elements.place = let end = c.elements-test.false in omega (arith, end) in
-    primaries_end (primary_at collation) c.args.variable_end c.args.elements.now (was_compressible collation) c.elements.place c.elements.run
+    let past : length c.args.elements.now ≤ c.elements.index = let end = c.elements-test.false in omega (arith, end) in
+    primaries_end (primary_at collation) c.args.variable_end c.args.elements.now (was_compressible collation) c.elements.index c.elements.run
     (c.args.key.now.items ++ primary_level collation (primaries_by collation (counted_list c.args.variable_end c.args.elements.now)))
     c.elements.key.items past c.elements.invariant.level

@@ -7,12 +7,12 @@ use Rattle.icu_collator.proofs.key_bytes.primaries.write_primaries.Given as goal
 
 abbrev pub invariant-elements : goal.invariant-elements
 invariant-elements l = record {
-  within : l.place ≤ length l.elements;
+  within : l.index ≤ length l.elements;
   run : IsRun (was_compressible (source_collation l.checked)) l.run;
   level : l.key.items ++ codes_from primary_code (primary_run (was_compressible (source_collation l.checked))) l.run
-      (primaries_by (source_collation l.checked) (counted_list l.variable_end (drop l.place l.elements)))
+      (primaries_by (source_collation l.checked) (counted_list l.variable_end (drop l.index l.elements)))
       ≡ l.initial.key.items ++ primary_level (source_collation l.checked) (primaries_by (source_collation l.checked) (counted_list l.variable_end l.elements));
 }
 
 abbrev pub decreases-elements : goal.decreases-elements
-decreases-elements l = length l.elements - l.place
+decreases-elements l = length l.elements - l.index

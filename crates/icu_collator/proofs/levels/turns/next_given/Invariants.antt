@@ -4,7 +4,7 @@ use Rattle.icu_collator.specs.Shifted.{Counted}
 use Rattle.icu_collator.specs.declared.levels.counted_elements.CountedElement.{CountedElement}
 use Rattle.icu_collator.proofs.levels.turns.next_given.Given as goal
 
-abbrev pub invariant-loop-place : goal.invariant-loop-place
-invariant-loop-place g l =
+abbrev pub invariant-loop-index : goal.invariant-loop-index
+invariant-loop-index g l =
     (at : Counted → Option ℕ) → ((e : CountedElement) (w : Option ℕ) → goal.F-post g l.given e w → w ≡ at (counted_of e))
-    → filter_map at (counted_list l.variable_end (drop l.from l.elements)) ≡ filter_map at (counted_list l.variable_end (drop l.place l.elements))
+    → filter_map at (counted_list l.variable_end (drop l.from l.elements)) ≡ filter_map at (counted_list l.variable_end (drop l.index l.elements))

@@ -15,7 +15,7 @@ returns c =
     let canonical = borrowed_meaning c.args.canonical in
     let digit = (weights_of canonical c.args.tables.now).digit in
     let contexts = c.args.source.now.contexts in
-    let told = subst (λ place. IsTrue c.in_ok-all.all ↔ KeysPass (is_prefix canonical digit) (trie_of contexts place)) c.index_of.ensures.index c.in_ok-all.ensures in
+    let told = subst (λ index. IsTrue c.in_ok-all.all ↔ KeysPass (is_prefix canonical digit) (trie_of contexts index)) c.index_of.ensures.index c.in_ok-all.ensures in
     where_asked (has_tag Prefix c.args.word) c.in_ok-all.all (sym c.has_tag.ensures ∙ c.if-not-has_tag.false)
     (after_test (may_have_prefix canonical digit (is_recorded_by (entry_in c.args.source.now c.args.word)) c.args.c) c.in_ok-all.all
     (sym c.may_have_prefix.ensures ∙ c.if-not-may_have_prefix.false) told)

@@ -14,7 +14,7 @@ pub returns : goal.returns
 returns c =
     let canonical = borrowed_meaning c.args.canonical in
     let question = c.args.question in
-    let units = trie_of c.args.contexts.now c.args.place in
+    let units = trie_of c.args.contexts.now c.args.index in
     told_same units (by_fold is_yes (answered_with canonical question) (answered_first question)) (answer canonical question) c.in_ok-all.all
     (answer_told canonical question)
     (subst (λ start. IsTrue c.in_ok-all.all ↔ KeysPass (by_fold is_yes (answered_with canonical question) start) units) c.answered_first.ensures c.in_ok-all.ensures)

@@ -6,5 +6,5 @@ use Rattle.icu_collator_core.proofs.check.forms.all_state_elements.Given as goal
 
 abbrev pub invariant-loop-i : goal.invariant-loop-i
 invariant-loop-i l =
-    list_all states_element (items_at l.ce32s l.place l.count)
-    ≡ list_all states_element (items_at l.ce32s l.i (l.place + l.count - l.i))
+    list_all states_element (items_at l.ce32s l.index l.count)
+    ≡ list_all states_element (items_at l.ce32s l.i (l.index + l.count - l.i))

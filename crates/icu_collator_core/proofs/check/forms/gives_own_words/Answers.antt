@@ -8,5 +8,5 @@ use Rattle.icu_collator_core.proofs.check.forms.gives_own_words.Goals as goal
 pub returns : goal.returns
 returns c =
     subst
-    (λ place. IsTrue c.in_ok-all.all ↔ EntriesPass (by_word (is_own_word (pools_of c.args.source.now))) (trie_of c.args.source.now.contexts place))
+    (λ index. IsTrue c.in_ok-all.all ↔ EntriesPass (by_word (is_own_word (pools_of c.args.source.now))) (trie_of c.args.source.now.contexts index))
     c.index_of.ensures.index c.in_ok-all.ensures

@@ -12,5 +12,5 @@ pub returns : goal.returns
 returns c =
     let canonical = borrowed_meaning c.args.canonical in
     let digit = (weights_of canonical c.args.tables.now).digit in
-    told_also (trie_of c.args.contexts.now c.args.place) (by_fold is_prefix_count (prefix_with canonical digit) 0) (is_prefix canonical digit) c.in_ok-all.all
+    told_also (trie_of c.args.contexts.now c.args.index) (by_fold is_prefix_count (prefix_with canonical digit) 0) (is_prefix canonical digit) c.in_ok-all.all
     (prefix_told canonical digit) c.in_ok-all.ensures

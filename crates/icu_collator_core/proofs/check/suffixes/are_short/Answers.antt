@@ -8,4 +8,4 @@ use Rattle.icu_collator_core.proofs.check.suffixes.are_short.Goals as goal
 
 pub returns : goal.returns
 returns c =
-    told_also (trie_of c.args.contexts.now c.args.place) (by_fold is_short_count count_with 0) is_short c.in_ok-all.all short_told c.in_ok-all.ensures
+    told_also (trie_of c.args.contexts.now c.args.index) (by_fold is_short_count count_with 0) is_short c.in_ok-all.all short_told c.in_ok-all.ensures

@@ -13,7 +13,7 @@ use Rattle.icu_collator_core.proofs.check.suffixes.have_marks_last.Goals as goal
 pub returns : goal.returns
 returns c =
     let canonical = borrowed_meaning c.args.canonical in
-    let units = trie_of c.args.contexts.now c.args.place in
+    let units = trie_of c.args.contexts.now c.args.index in
     told_same units (by_fold is_ordered (order_with canonical) (order_with canonical Starters c.args.c)) (λ cs. has_marks_last canonical (c.args.c ∷ cs))
     c.in_ok-all.all (order_told canonical c.args.c)
     (subst (λ start. IsTrue c.in_ok-all.all ↔ KeysPass (by_fold is_ordered (order_with canonical) start) units) c.fold_character-start.ensures c.in_ok-all.ensures)

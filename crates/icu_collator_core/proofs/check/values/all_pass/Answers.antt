@@ -10,32 +10,32 @@ use Rattle.icu_collator_core.proofs.checks.CheckedTestLemmas.{refuted, shown}
 use Rattle.icu_collator_core.proofs.checks.CheckedValueLemmas.{all_hold, holds_next}
 use Rattle.icu_collator_core.proofs.check.values.all_pass.Goals as goal
 
-pub loop-place-preserved : goal.loop-place-preserved
-loop-place-preserved g c =
+pub loop-index-preserved : goal.loop-index-preserved
+loop-index-preserved g c =
     let list = c.args.values.now.items in
-    let place = c.loop-place.place in
-    let inside : place < length list = search rules in
+    let index = c.loop-index.index in
+    let inside : index < length list = search rules in
     let fits : SFits w32 c.index.result.now.1 = search rules in
     let value : c.cast_unsigned.result ≡ cast_unsigned w32 c.index.result.now.1 =
     c.cast_unsigned.ensures ∙ ap (cast_unsigned w32) (to_z-of_z w32 c.index.result.now.1 fits) in
-    holds_next (λ (value : ⊤ × ℤ). IsTrue (g.T.ValueTest.test c.args.test.now (cast_unsigned w32 value.1))) list place c.index.result.now
-    c.loop-place.invariant inside c.index.ensures
+    holds_next (λ (value : ⊤ × ℤ). IsTrue (g.T.ValueTest.test c.args.test.now (cast_unsigned w32 value.1))) list index c.index.result.now
+    c.loop-index.invariant inside c.index.ensures
     (ap (g.T.ValueTest.test c.args.test.now) (sym value) ∙ sym c.passes.ensures ∙ c.if-not-passes.false)
 
 pub returns-then-not-passes : goal.returns-then-not-passes
 returns-then-not-passes g c =
     let list = c.args.values.now.items in
-    let place = c.loop-place.place in
-    let inside : place < length list = search rules in
+    let index = c.loop-index.index in
+    let inside : index < length list = search rules in
     let fits : SFits w32 c.index.result.now.1 = search rules in
     let value : c.cast_unsigned.result ≡ cast_unsigned w32 c.index.result.now.1 =
     c.cast_unsigned.ensures ∙ ap (cast_unsigned w32) (to_z-of_z w32 c.index.result.now.1 fits) in
     refuted (λ all. false≢true
     (sym (ap (g.T.ValueTest.test c.args.test.now) (sym value) ∙ sym c.passes.ensures ∙ c.if-not-passes.true)
-    ∙ all c.index.result.now (subst (λ one. Contains list one) (sym c.index.ensures) (Contains-get_or list place c.index.result.now inside))))
+    ∙ all c.index.result.now (subst (λ one. Contains list one) (sym c.index.ensures) (Contains-get_or list index c.index.result.now inside))))
 
 pub returns : goal.returns
 returns g c =
     let list = c.args.values.now.items in
-    let many : length list ≡ c.loop-place.place = search rules in
-    shown (all_hold (λ (value : ⊤ × ℤ). IsTrue (g.T.ValueTest.test c.args.test.now (cast_unsigned w32 value.1))) list c.loop-place.place many c.loop-place.invariant)
+    let many : length list ≡ c.loop-index.index = search rules in
+    shown (all_hold (λ (value : ⊤ × ℤ). IsTrue (g.T.ValueTest.test c.args.test.now (cast_unsigned w32 value.1))) list c.loop-index.index many c.loop-index.invariant)

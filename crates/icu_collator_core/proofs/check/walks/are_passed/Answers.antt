@@ -9,25 +9,25 @@ use Rattle.icu_collator_core.proofs.checks.CheckedTestLemmas.{refuted, shown}
 use Rattle.icu_collator_core.proofs.checks.CheckedValueLemmas.{all_hold, holds_next}
 use Rattle.icu_collator_core.proofs.check.walks.are_passed.Goals as goal
 
-pub loop-place-preserved : goal.loop-place-preserved
-loop-place-preserved g c =
+pub loop-index-preserved : goal.loop-index-preserved
+loop-index-preserved g c =
     let list = c.args.readings.now.items in
-    let place = c.loop-place.place in
-    let inside : place < length list = search rules in
-    holds_next (λ (one : Reading g.row.T-Folded.Denot × ℤ). IsTrue (tells (g.T.TextTest.test c.args.test.now) one.0)) list place c.index.result.now
-    c.loop-place.invariant inside c.index.ensures (sym c.is_passed.ensures ∙ c.if-not-is_passed.false)
+    let index = c.loop-index.index in
+    let inside : index < length list = search rules in
+    holds_next (λ (one : Reading g.row.T-Folded.Denot × ℤ). IsTrue (tells (g.T.TextTest.test c.args.test.now) one.0)) list index c.index.result.now
+    c.loop-index.invariant inside c.index.ensures (sym c.is_passed.ensures ∙ c.if-not-is_passed.false)
 
 pub returns-then-not-is_passed : goal.returns-then-not-is_passed
 returns-then-not-is_passed g c =
     let list = c.args.readings.now.items in
-    let place = c.loop-place.place in
-    let inside : place < length list = search rules in
+    let index = c.loop-index.index in
+    let inside : index < length list = search rules in
     refuted (λ all. false≢true
     (sym (sym c.is_passed.ensures ∙ c.if-not-is_passed.true)
-    ∙ all c.index.result.now (subst (λ one. Contains list one) (sym c.index.ensures) (Contains-get_or list place c.index.result.now inside))))
+    ∙ all c.index.result.now (subst (λ one. Contains list one) (sym c.index.ensures) (Contains-get_or list index c.index.result.now inside))))
 
 pub returns : goal.returns
 returns g c =
     let list = c.args.readings.now.items in
-    let many : length list ≡ c.loop-place.place = search rules in
-    shown (all_hold (λ (one : Reading g.row.T-Folded.Denot × ℤ). IsTrue (tells (g.T.TextTest.test c.args.test.now) one.0)) list c.loop-place.place many c.loop-place.invariant)
+    let many : length list ≡ c.loop-index.index = search rules in
+    shown (all_hold (λ (one : Reading g.row.T-Folded.Denot × ℤ). IsTrue (tells (g.T.TextTest.test c.args.test.now) one.0)) list c.loop-index.index many c.loop-index.invariant)

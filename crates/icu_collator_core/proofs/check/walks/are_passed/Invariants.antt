@@ -4,6 +4,6 @@ use Rattle.std.specs.List.{HoldsAt}
 use Rattle.icu_collator_core.specs.KeyTexts.{tells}
 use Rattle.icu_collator_core.proofs.check.walks.are_passed.Given as goal
 
-abbrev pub invariant-loop-place : goal.invariant-loop-place
-invariant-loop-place g l =
-    (k : ℕ) → k < l.place → HoldsAt (λ one. IsTrue (tells (g.T.TextTest.test l.test) one.0)) l.readings.items k
+abbrev pub invariant-loop-index : goal.invariant-loop-index
+invariant-loop-index g l =
+    (k : ℕ) → k < l.index → HoldsAt (λ one. IsTrue (tells (g.T.TextTest.test l.test) one.0)) l.readings.items k

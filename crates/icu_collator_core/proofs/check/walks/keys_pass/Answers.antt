@@ -11,7 +11,7 @@ use Rattle.icu_collator_core.proofs.check.walks.keys_pass.Goals as goal
 pub returns-in-Some : goal.returns-in-Some
 returns-in-Some g c =
     let onward = g.T.TextTest.onward c.args.test.now in
-    let units = trie_of c.args.contexts.now c.args.place in
+    let units = trie_of c.args.contexts.now c.args.index in
     keys_told onward (g.T.TextTest.test c.args.test.now) c.args.start units c.in-Some.readings.items c.are_passed.result
     (found_one (IsUnitTrie units → ⊥) (λ readings. AreFolded (read_unit onward) (Whole c.args.start) units readings.items) c.in_ok-found.found
     c.in-Some.readings c.in-Some.is c.in_ok-found.ensures.readings)
@@ -20,7 +20,7 @@ returns-in-Some g c =
 pub returns-in-None : goal.returns-in-None
 returns-in-None g c =
     let onward = g.T.TextTest.onward c.args.test.now in
-    let units = trie_of c.args.contexts.now c.args.place in
+    let units = trie_of c.args.contexts.now c.args.index in
     refuted (λ pass.
     found_nothing (IsUnitTrie units → ⊥) (λ readings. AreFolded (read_unit onward) (Whole c.args.start) units readings.items) c.in_ok-found.found
     c.in-None.is c.in_ok-found.ensures.readings pass.0)

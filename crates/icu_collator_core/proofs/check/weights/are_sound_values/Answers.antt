@@ -9,5 +9,5 @@ use Rattle.icu_collator_core.proofs.check.weights.are_sound_values.Goals as goal
 pub returns : goal.returns
 returns c =
     subst
-    (λ place. IsTrue c.in_ok-all.all ↔ EntriesPass (by_word (is_sound_in_context c.args.special.now (pools_of c.args.source.now) c.args.c)) (trie_of c.args.source.now.contexts place))
+    (λ index. IsTrue c.in_ok-all.all ↔ EntriesPass (by_word (is_sound_in_context c.args.special.now (pools_of c.args.source.now) c.args.c)) (trie_of c.args.source.now.contexts index))
     c.index_of.ensures.index c.in_ok-all.ensures

@@ -6,12 +6,12 @@ use Rattle.icu_collator_core.proofs.check_weights.diacritics.are_all_sound.Goals
 
 pub returns-then-not-is_sound_diacritic : goal.returns-then-not-is_sound_diacritic
 returns-then-not-is_sound_diacritic c =
-    let inside : c.loop-place.place < length c.args.secondaries.now = omega (arith, c.loop-place-test.true, c.len-place-end.ensures)
-    in sym (list_all_at is_sound_diacritic c.args.secondaries.now c.loop-place.place 0 inside
+    let inside : c.loop-index.index < length c.args.secondaries.now = omega (arith, c.loop-index-test.true, c.len-index-end.ensures)
+    in sym (list_all_at is_sound_diacritic c.args.secondaries.now c.loop-index.index 0 inside
     (ap is_sound_diacritic (sym (c.at.ensures.item 0)) ∙ sym c.if-not-is_sound_diacritic.ensures))
 
-pub loop-place-preserved : goal.loop-place-preserved
-loop-place-preserved c =
-    let inside : c.loop-place.place < length c.args.secondaries.now = omega (arith, c.loop-place-test.true, c.len-place-end.ensures)
-    in list_all_more is_sound_diacritic c.args.secondaries.now c.loop-place.place 0 inside
-    ∙ and_from _ _ c.loop-place.invariant (ap is_sound_diacritic (sym (c.at.ensures.item 0)) ∙ sym c.if-not-is_sound_diacritic.ensures)
+pub loop-index-preserved : goal.loop-index-preserved
+loop-index-preserved c =
+    let inside : c.loop-index.index < length c.args.secondaries.now = omega (arith, c.loop-index-test.true, c.len-index-end.ensures)
+    in list_all_more is_sound_diacritic c.args.secondaries.now c.loop-index.index 0 inside
+    ∙ and_from _ _ c.loop-index.invariant (ap is_sound_diacritic (sym (c.at.ensures.item 0)) ∙ sym c.if-not-is_sound_diacritic.ensures)

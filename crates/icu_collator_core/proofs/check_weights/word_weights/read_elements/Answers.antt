@@ -8,5 +8,5 @@ pub loop-i-preserved : goal.loop-i-preserved
 loop-i-preserved c =
     c.with_bits-seen.ensures
     ∙ ap (λ seen. if_any (with_bits c.args.special.now c.args.own) seen c.get.result) c.loop-i.invariant
-    ∙ ap (if_any (with_bits c.args.special.now c.args.own) (fold (with_bits c.args.special.now c.args.own) nothing_read (take c.loop-i.i (drop c.args.place c.args.ces.now)))) c.get.ensures.item
-    ∙ one_more (with_bits c.args.special.now c.args.own) nothing_read c.args.ces.now c.args.place c.loop-i.i
+    ∙ ap (if_any (with_bits c.args.special.now c.args.own) (fold (with_bits c.args.special.now c.args.own) nothing_read (take c.loop-i.i (drop c.args.index c.args.ces.now)))) c.get.ensures.item
+    ∙ one_more (with_bits c.args.special.now c.args.own) nothing_read c.args.ces.now c.args.index c.loop-i.i

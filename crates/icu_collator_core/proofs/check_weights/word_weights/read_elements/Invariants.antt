@@ -4,4 +4,4 @@ use Rattle.icu_collator_core.specs.SpelledTests.{nothing_read, with_bits}
 use Rattle.icu_collator_core.proofs.check_weights.word_weights.read_elements.Given as goal
 
 abbrev pub invariant-loop-i : goal.invariant-loop-i
-invariant-loop-i l = l.seen ≡ fold (with_bits l.special l.own) nothing_read (take l.i (drop l.place l.ces))
+invariant-loop-i l = l.seen ≡ fold (with_bits l.special l.own) nothing_read (take l.i (drop l.index l.ces))

@@ -8,15 +8,15 @@ use Rattle.icu_collator_core.proofs.readings.PrimariesLemmas.{three_more, two_mo
 use Rattle.icu_collator_core.proofs.readings.SyllablePartLemmas.{full_letters, three_letters, three_pushed, two_letters, two_pushed}
 use Rattle.icu_collator_core.proofs.checked.CheckedTables.syllable_primaries.Goals as goal
 
-pub returns-then-place-eq0 : goal.returns-then-place-eq0
-returns-then-place-eq0 c = λ old.
+pub returns-then-index-eq0 : goal.returns-then-index-eq0
+returns-then-index-eq0 c = λ old.
     let source = c.args.self.now in
     let numeric = c.args.numeric in
     let ok : IsCanonical (canonical_by source) = search rules in
     let scalar : IsScalar c.args.c = search rules in
     let full : (canonical_by source).full c.args.c ≡ c.letter-leading.result ∷ c.letter-vowel.result ∷ [] =
     rw (c.letter-leading.ensures, c.letter-vowel.ensures)
-    (full_letters (canonical_by source) ok.decomposing c.args.c scalar c.requires ∙ two_letters c.args.c c.if-place-eq0.true) in
+    (full_letters (canonical_by source) ok.decomposing c.args.c scalar c.requires ∙ two_letters c.args.c c.if-index-eq0.true) in
     let first = c.in_ok-first.ensures in
     let second = c.in_ok-second.ensures in
     let one = first.primary old in
@@ -36,7 +36,7 @@ returns c = λ old.
     let numeric = c.args.numeric in
     let ok : IsCanonical (canonical_by source) = search rules in
     let scalar : IsScalar c.args.c = search rules in
-    let some : (c.args.c - 0xac00) % 28 ≢ 0 = c.if-place-eq0.false in
+    let some : (c.args.c - 0xac00) % 28 ≢ 0 = c.if-index-eq0.false in
     let test : ((c.args.c - 0xac00) % 28 == 0) ≡ false = grind (arith, nat_tests) in
     let full : (canonical_by source).full c.args.c ≡ c.letter-leading.result ∷ c.letter-vowel.result ∷ c.letter-trailing.result ∷ [] =
     rw (c.letter-leading.ensures, c.letter-vowel.ensures, c.letter-trailing.ensures)

@@ -7,4 +7,4 @@ use Rattle.icu_collator_core.proofs.elements.runs.push_alone.Given as goal
 
 abbrev pub invariant-loop-i : goal.invariant-loop-i
 invariant-loop-i l =
-    (numeric : Option ℕ) → IsRead (canonical_by l.checked) (weights_by numeric l.checked) (is_some numeric) l.list l.place (unpacked l.initial.elements.items) l.list l.i (unpacked l.elements.items)
+    (numeric : Option ℕ) → IsRead (canonical_by l.checked) (weights_by numeric l.checked) (is_some numeric) l.list l.index (unpacked l.initial.elements.items) l.list l.i (unpacked l.elements.items)

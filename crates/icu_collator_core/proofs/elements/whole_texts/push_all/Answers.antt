@@ -27,7 +27,7 @@ returns c =
     let within = c.reading.invariant.within in
     let past = c.reading-test.false in
     let count = c.len.ensures.value in
-    let over : c.reading.place ≡ length list = omega (arith, within, past, count) in
-    let none : elements_from (canonical_by source) (weights_by c.args.numeric source) (is_some c.args.numeric) list c.reading.place ≡ [] =
-    nothing_from (canonical_by source) (weights_by c.args.numeric source) (is_some c.args.numeric) list c.reading.place (placed_end c.reading.place list over) in
+    let over : c.reading.index ≡ length list = omega (arith, within, past, count) in
+    let none : elements_from (canonical_by source) (weights_by c.args.numeric source) (is_some c.args.numeric) list c.reading.index ≡ [] =
+    nothing_from (canonical_by source) (weights_by c.args.numeric source) (is_some c.args.numeric) list c.reading.index (placed_end c.reading.index list over) in
     sym (ap (λ (es : List Element). unpacked elements ++ es) none ∙ append-nil (unpacked elements)) ∙ c.reading.invariant.whole

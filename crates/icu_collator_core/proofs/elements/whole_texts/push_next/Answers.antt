@@ -10,20 +10,20 @@ pub returns-then-next-end-clause-read : goal.returns-then-next-end-clause-read
 returns-then-next-end-clause-read c =
     let source = c.args.checked.now in
     let numeric = c.args.numeric in
-    let place = c.args.place in
+    let index = c.args.index in
     let next = c.in_ok-next.next in
     let before = unpacked c.args.elements.now.items in
     let behind = unpacked c.push_alone.new.elements.items in
-    subst (λ (l : List ℕ). IsRead (canonical_by source) (weights_by numeric source) (is_some numeric) l place before l next behind) c.deref.ensures (c.in_ok-next.ensures.read numeric)
+    subst (λ (l : List ℕ). IsRead (canonical_by source) (weights_by numeric source) (is_some numeric) l index before l next behind) c.deref.ensures (c.in_ok-next.ensures.read numeric)
 
 pub returns-clause-read : goal.returns-clause-read
 returns-clause-read c =
     let source = c.args.checked.now in
     let numeric = c.args.numeric in
-    let place = c.args.place in
+    let index = c.args.index in
     let next = c.in_ok-next.next in
     let before = unpacked c.args.elements.now.items in
     let behind = unpacked c.push_alone.new.elements.items in
     subst (λ (s : CollationSource). IsRead (canonical_by s) (weights_by numeric s) (is_some numeric) c.args.list.now.items next behind c.read_next.new.list.items c.in_ok-after.after
     (unpacked c.read_next.new.ready.items)) c.sound.ensures c.in_ok-after.ensures.read
-    ∙ subst (λ (l : List ℕ). IsRead (canonical_by source) (weights_by numeric source) (is_some numeric) l place before l next behind) c.deref.ensures (c.in_ok-next.ensures.read numeric)
+    ∙ subst (λ (l : List ℕ). IsRead (canonical_by source) (weights_by numeric source) (is_some numeric) l index before l next behind) c.deref.ensures (c.in_ok-next.ensures.read numeric)

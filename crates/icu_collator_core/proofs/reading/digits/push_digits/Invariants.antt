@@ -6,4 +6,4 @@ use Rattle.icu_collator_core.proofs.reading.digits.push_digits.Given as goal
 abbrev pub invariant-loop-i : goal.invariant-loop-i
 invariant-loop-i l =
     l.digits.items ++ leading_digits (weights_by None l.sound).digit (drop l.i l.list)
-    ≡ l.initial.digits.items ++ leading_digits (weights_by None l.sound).digit (drop l.place l.list)
+    ≡ l.initial.digits.items ++ leading_digits (weights_by None l.sound).digit (drop l.index l.list)

@@ -8,12 +8,12 @@ use Rattle.icu_collator_core.specs.TableMeaning.{pools_of}
 use Rattle.icu_collator_core.specs.Weights.{Weights}
 use Rattle.icu_collator_core.proofs.reading.joining.join_marks.Given as goal
 
-abbrev pub invariant-loop-place : goal.invariant-loop-place
-invariant-loop-place l =
+abbrev pub invariant-loop-index : goal.invariant-loop-index
+invariant-loop-index l =
     record {
-      moved : HaveMoved (borrowed_meaning l.canonical).class l.first.next l.initial.list l.place l.list l.text;
+      moved : HaveMoved (borrowed_meaning l.canonical).class l.first.next l.initial.list l.index l.list l.text;
       joined : (weights : Weights) (c : ℕ) (suffix : List ℕ) → AreSaidBy weights (table_word l.entry) c → has_suffixes (table_word l.entry) ≡ true
           → IsAtText (suffix_units (table_word l.entry)) suffix l.first.cursor → IsWordOfText weights (pools_of l.entry.source.now) c (c ∷ suffix) l.first.word
           → scalars suffix ≡ true → scalars (drop l.first.next l.initial.list) ≡ true
-          → HasJoined (borrowed_meaning l.canonical) weights (table_word l.entry) c suffix l.first.next l.initial.list l.place l.list l.text;
+          → HasJoined (borrowed_meaning l.canonical) weights (table_word l.entry) c suffix l.first.next l.initial.list l.index l.list l.text;
     }

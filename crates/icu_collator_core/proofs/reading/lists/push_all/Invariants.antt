@@ -11,11 +11,11 @@ use Rattle.icu_collator_core.proofs.reading.lists.push_all.Given as goal
 abbrev pub invariant-reading : goal.invariant-reading
 invariant-reading l =
     record {
-      within : l.place ≤ small_vec_len l.list;
+      within : l.index ≤ small_vec_len l.list;
       characters : scalars l.list.items ≡ true;
-      whole : unpacked l.elements.items ++ elements_from (canonical_by l.sound) (weights_by l.numeric l.sound) (is_some l.numeric) l.list.items l.place
+      whole : unpacked l.elements.items ++ elements_from (canonical_by l.sound) (weights_by l.numeric l.sound) (is_some l.numeric) l.list.items l.index
           ≡ elements_of_list (canonical_by l.sound) (weights_by l.numeric l.sound) (is_some l.numeric) l.fn.list.items;
     }
 
 abbrev pub decreases-reading : goal.decreases-reading
-decreases-reading l = small_vec_len l.list - l.place
+decreases-reading l = small_vec_len l.list - l.index

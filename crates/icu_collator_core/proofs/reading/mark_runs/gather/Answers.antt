@@ -10,12 +10,12 @@ use Rattle.icu_collator_core.proofs.reading.mark_runs.gather.Goals as goal
 pub gathering-init : goal.gathering-init
 gathering-init c =
     let list = c.args.list.now in
-    let place = c.args.place in
-    let count = length-take-le place list c.requires.inside in
+    let index = c.args.index in
+    let count = length-take-le index list c.requires.inside in
     record {
       begins = omega arith;
       within = c.requires.inside;
-      left = ap marks_left c.requires.none ∙ sym (drop_all place (take place list) (omega (arith, count)));
+      left = ap marks_left c.requires.none ∙ sym (drop_all index (take index list) (omega (arith, count)));
       marks = ap (are_of_classes (borrowed_meaning c.args.canonical).class) c.requires.none;
     }
 
@@ -23,7 +23,7 @@ pub gathering-preserved : goal.gathering-preserved
 gathering-preserved c =
     let class = (borrowed_meaning c.args.canonical).class in
     let list = c.args.list.now in
-    let place = c.args.place in
+    let index = c.args.index in
     let end = c.gathering.end in
     let next = c.class_end-next.result in
     let x = c.class_marks.result in
@@ -39,7 +39,7 @@ gathering-preserved c =
       within = c.class_end-next.ensures.within;
       left =
           ap marks_left c.in_ok-push.ensures.items
-          ∙ gathered_more class place end next list items x begins (omega (arith, onward)) c.class_end-next.ensures.within c.class_marks.ensures.marks was.left;
+          ∙ gathered_more class index end next list items x begins (omega (arith, onward)) c.class_end-next.ensures.within c.class_marks.ensures.marks was.left;
       marks =
           ap (are_of_classes class) c.in_ok-push.ensures.items
           ∙ classes_more class items x was.marks

@@ -6,9 +6,9 @@ use Rattle.icu_collator_core.proofs.reading.mark_runs.gather.Given as goal
 abbrev pub invariant-gathering : goal.invariant-gathering
 invariant-gathering l =
     record {
-      begins : l.place ≤ l.end;
+      begins : l.index ≤ l.end;
       within : l.end ≤ length l.list;
-      left : marks_left l.classes.items ≡ drop l.place (take l.end l.list);
+      left : marks_left l.classes.items ≡ drop l.index (take l.end l.list);
       marks : are_of_classes (borrowed_meaning l.canonical).class l.classes.items ≡ true;
     }
 

@@ -10,15 +10,15 @@ pub loop-mark-init : goal.loop-mark-init
 loop-mark-init c =
     let source = c.args.sound.now in
     let list = c.args.list.now in
-    let place = c.args.place in
+    let index = c.args.index in
     let end = c.args.end in
     let classes = c.args.classes.now in
-    let sum = part_length place end list (marks_left classes) c.requires.order c.requires.inside c.requires.left in
+    let sum = part_length index end list (marks_left classes) c.requires.order c.requires.inside c.requires.left in
     record {
       fewer = omega (arith, sum);
       marks = c.requires.marks;
       run =
-          λ numeric. run_begins (canonical_by source) (weights_by numeric source) (is_some numeric) list place end c.args.ready.now.items classes
+          λ numeric. run_begins (canonical_by source) (weights_by numeric source) (is_some numeric) list index end c.args.ready.now.items classes
           c.requires.order c.requires.left;
     }
 
@@ -39,14 +39,14 @@ loop-mark-preserved c =
       fewer = let before = was.fewer in let one = ap length taken in let less = c.in_ok-read_mark.ensures.fewer in omega (arith, before, one, less);
       marks = c.in_ok-read_mark.ensures.marks;
       run =
-          λ numeric. run_on (canonical_by source) (weights_by numeric source) (is_some numeric) c.args.list.now c.args.place c.args.end c.args.ready.now.items
+          λ numeric. run_on (canonical_by source) (weights_by numeric source) (is_some numeric) c.args.list.now c.args.index c.args.end c.args.ready.now.items
           old mid new c.in-Some.c c.loop-mark.ready.items c.read_mark.new.ready.items taken (was.run numeric) (c.in_ok-read_mark.ensures.read numeric);
     }
 
 pub returns-in_default : goal.returns-in_default
 returns-in_default c = λ numeric.
     let source = c.args.sound.now in
-    run_ends (canonical_by source) (weights_by numeric source) (is_some numeric) c.args.list.now c.args.place c.args.end c.args.ready.now.items
+    run_ends (canonical_by source) (weights_by numeric source) (is_some numeric) c.args.list.now c.args.index c.args.end c.args.ready.now.items
     c.loop-mark.classes c.loop-mark.ready.items c.in_default.ensures.taken (c.loop-mark.invariant.run numeric)
 
 pub returns : goal.returns
@@ -54,5 +54,5 @@ returns c = λ numeric.
     let source = c.args.sound.now in
     let few : length (marks_left c.loop-mark.classes) ≤ 0 =
     let before = c.loop-mark.invariant.fewer in let past = c.loop-mark-test.false in omega (arith, before, past) in
-    run_ends (canonical_by source) (weights_by numeric source) (is_some numeric) c.args.list.now c.args.place c.args.end c.args.ready.now.items
+    run_ends (canonical_by source) (weights_by numeric source) (is_some numeric) c.args.list.now c.args.index c.args.end c.args.ready.now.items
     c.loop-mark.classes c.loop-mark.ready.items (nothing_there (marks_left c.loop-mark.classes) few) (c.loop-mark.invariant.run numeric)

@@ -11,5 +11,5 @@ invariant-loop-mark l =
       fewer : l._mark + length (marks_left l.classes) ≤ l.end;
       marks : are_of_classes (canonical_by l.sound).class l.classes ≡ true;
       run : (numeric : Option ℕ)
-          → HasRunTo (canonical_by l.sound) (weights_by numeric l.sound) (is_some numeric) l.list l.place l.end l.initial.ready.items l.classes l.ready.items;
+          → HasRunTo (canonical_by l.sound) (weights_by numeric l.sound) (is_some numeric) l.list l.index l.end l.initial.ready.items l.classes l.ready.items;
     }

@@ -28,5 +28,5 @@ pub returns-clause-onward : goal.returns-clause-onward
 returns-clause-onward c =
     let canonical = canonical_by c.args.sound.now in
     let same : borrowed_meaning c.canonical.result ≡ canonical = ap meaning c.canonical.ensures in
-    run_some canonical.class c.args.place c.in_ok-end.end c.args.list.now c.requires.inside c.requires.mark c.in_ok-end.ensures.begins
+    run_some canonical.class c.args.index c.in_ok-end.end c.args.list.now c.requires.inside c.requires.mark c.in_ok-end.ensures.begins
     (ap (λ (k : Canonical). ends_run k.class (drop c.in_ok-end.end (placed c.args.list.now))) (sym same) ∙ c.in_ok-end.ensures.ended)

@@ -22,22 +22,22 @@ returns-in_ok-push-in-Some-clause-read c =
     let canonical = canonical_by source in
     let weights = weights_by c.args.numeric source in
     let old = c.args.list.now.items in
-    let place = c.args.place in
+    let index = c.args.index in
     let ready = c.args.ready.now.items in
     let after = c.push.new.self.items in
-    let x = c.index-deref-place.result in
+    let x = c.index-deref-index.result in
     let primary = c.in-Some.primary in
     let inside = c.requires.inside in
-    let within : place ≤ length old = omega (arith, inside) in
-    let ps = drop (place + 1) (placed old) in
-    let inside_list : place < length c.deref.result.now = subst (λ l. place < length l) (sym c.deref.ensures) inside in
-    let is : x ≡ slice_index old place =
-    get_or_read c.deref.result.now place x inside_list c.index-deref-place.is 0 ∙ ap (λ l. slice_index l place) c.deref.ensures in
-    let here = left_from old place x inside is in
-    read_from canonical weights (is_some c.args.numeric) old place x ready old (place + 1) after
+    let within : index ≤ length old = omega (arith, inside) in
+    let ps = drop (index + 1) (placed old) in
+    let inside_list : index < length c.deref.result.now = subst (λ l. index < length l) (sym c.deref.ensures) inside in
+    let is : x ≡ slice_index old index =
+    get_or_read c.deref.result.now index x inside_list c.index-deref-index.is 0 ∙ ap (λ l. slice_index l index) c.deref.ensures in
+    let here = left_from old index x inside is in
+    read_from canonical weights (is_some c.args.numeric) old index x ready old (index + 1) after
     (record { elements = primary_element primary ∷ []; left = ps }) within here
     (no_marks_for c.args.numeric (weights_of canonical source.tables) canonical.class (accepted_tables_know_no_marks_before canonical source.tables c.keep_promise.ensures))
-    (reading_special canonical weights (is_some c.args.numeric) (placed_at old place x) ps primary (sym c.special_primary.ensures ∙ c.in-Some.is))
+    (reading_special canonical weights (is_some c.args.numeric) (placed_at old index x) ps primary (sym c.special_primary.ensures ∙ c.in-Some.is))
     (record {
       elements =
           unpacked_more ready after c.new_from_primary.result c.in_ok-push-in-Some.ensures.ok

@@ -17,7 +17,7 @@ read_number-requires-clause-digit c =
     let list = c.args.list.now.items in
     let weights = weights_by (Some c.in-Some.lead) c.args.sound.now in
     ap (λ (x : ℕ). is_some (weights.digit x))
-    (ap (λ l. slice_index l c.args.place) c.deref.ensures ∙ first_left_is list c.args.place c.args.c c.requires.inside c.requires.here)
+    (ap (λ l. slice_index l c.args.index) c.deref.ensures ∙ first_left_is list c.args.index c.args.c c.requires.inside c.requires.here)
     ∙ ap (λ o. is_some o) (c.checked_word-entry.ensures (Some c.in-Some.lead)).digit
     ∙ c.in-Some.ensures.some.1
 
@@ -31,19 +31,19 @@ returns-in_ok-next-in-Some-clause-read c =
     let lead = c.in-Some.lead in
     let weights = weights_by (Some lead) source in
     let old = c.args.list.now.items in
-    let place = c.args.place in
+    let index = c.args.index in
     let ready = c.args.ready.now.items in
     let next = c.in_ok-next-in-Some.next in
     let after = c.read_number.new.ready.items in
     let inside = c.requires.inside in
-    let within : place ≤ length old = omega (arith, inside) in
-    let p = placed_at old place c.args.c in
-    let ps = drop (place + 1) (placed old) in
-    let first = number_reading weights (drop place (placed old)) in
-    subst (λ n. IsRead canonical (weights_by n source) (is_some n) old place (unpacked ready) old next (unpacked after)) (sym c.in-Some.ensures.some.0)
-    (read_from canonical weights true old place c.args.c ready old next after first within c.requires.here
+    let within : index ≤ length old = omega (arith, inside) in
+    let p = placed_at old index c.args.c in
+    let ps = drop (index + 1) (placed old) in
+    let first = number_reading weights (drop index (placed old)) in
+    subst (λ n. IsRead canonical (weights_by n source) (is_some n) old index (unpacked ready) old next (unpacked after)) (sym c.in-Some.ensures.some.0)
+    (read_from canonical weights true old index c.args.c ready old next after first within c.requires.here
     (no_marks_for (Some lead) (weights_of canonical source.tables) canonical.class (accepted_tables_know_no_marks_before canonical source.tables c.keep_promise.ensures))
     (reading_number canonical weights true p ps c.requires.ordinary
     (ap (λ o. is_some o) (c.checked_word-entry.ensures (Some lead)).digit ∙ c.in-Some.ensures.some.1)
-    ∙ ap (number_reading weights) (sym (placed_next place c.args.c old within c.requires.here)))
-    (subst (λ l. IsReadAs canonical weights (number_reading weights (drop place (placed l))) ready l next after) c.deref.ensures c.in_ok-next-in-Some.ensures.read))
+    ∙ ap (number_reading weights) (sym (placed_next index c.args.c old within c.requires.here)))
+    (subst (λ l. IsReadAs canonical weights (number_reading weights (drop index (placed l))) ready l next after) c.deref.ensures c.in_ok-next-in-Some.ensures.read))

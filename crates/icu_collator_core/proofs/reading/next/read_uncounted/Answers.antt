@@ -19,18 +19,18 @@ returns-then-is_dropped-clause-read c =
     let canonical = canonical_by source in
     let weights = weights_by c.args.numeric source in
     let old = c.args.list.now.items in
-    let place = c.args.place in
+    let index = c.args.index in
     let ready = c.args.ready.now.items in
     let inside = c.requires.inside in
-    let ps = drop (place + 1) (placed old) in
-    let within : place ≤ length old = omega (arith, inside) in
-    let test : CollationTables → List ℕ → Bool = λ t l. has_bit 6 t.metadata.bits && (c.args.c == 0x307) && is_before_accent (drop (place + 1) (placed l)) in
+    let ps = drop (index + 1) (placed old) in
+    let within : index ≤ length old = omega (arith, inside) in
+    let test : CollationTables → List ℕ → Bool = λ t l. has_bit 6 t.metadata.bits && (c.args.c == 0x307) && is_before_accent (drop (index + 1) (placed l)) in
     let is : c.is_dropped.result ≡ test source.tables old =
     c.is_dropped.ensures ∙ ap (λ t. test t c.deref.result.now) c.tables.ensures ∙ ap (test source.tables) c.deref.ensures in
-    read_from canonical weights (is_some c.args.numeric) old place c.args.c ready old (place + 1) ready (record { elements = []; left = ps })
+    read_from canonical weights (is_some c.args.numeric) old index c.args.c ready old (index + 1) ready (record { elements = []; left = ps })
     within c.requires.here
     (no_marks_for c.args.numeric (weights_of canonical source.tables) canonical.class (accepted_tables_know_no_marks_before canonical source.tables c.keep_promise.ensures))
-    (reading_dropped canonical weights (is_some c.args.numeric) (placed_at old place c.args.c) ps c.requires.ordinary
+    (reading_dropped canonical weights (is_some c.args.numeric) (placed_at old index c.args.c) ps c.requires.ordinary
     (ap (λ o. is_some c.args.numeric && is_some o) c.requires.said.digit ∙ c.requires.uncounted) (sym is ∙ c.if-is_dropped.true))
     (record { elements = sym (append-nil (unpacked ready)); left = λ _. alike_self weights ps })
 
@@ -40,19 +40,19 @@ returns-clause-read c =
     let canonical = canonical_by source in
     let weights = weights_by c.args.numeric source in
     let old = c.args.list.now.items in
-    let place = c.args.place in
+    let index = c.args.index in
     let ready = c.args.ready.now.items in
     let new = c.read_text.new.list.items in
     let next = c.in_ok-next.next in
     let after = c.read_text.new.ready.items in
     let inside = c.requires.inside in
-    let p = placed_at old place c.args.c in
-    let ps = drop (place + 1) (placed old) in
-    let within : place ≤ length old = omega (arith, inside) in
-    let test : CollationTables → List ℕ → Bool = λ t l. has_bit 6 t.metadata.bits && (c.args.c == 0x307) && is_before_accent (drop (place + 1) (placed l)) in
+    let p = placed_at old index c.args.c in
+    let ps = drop (index + 1) (placed old) in
+    let within : index ≤ length old = omega (arith, inside) in
+    let test : CollationTables → List ℕ → Bool = λ t l. has_bit 6 t.metadata.bits && (c.args.c == 0x307) && is_before_accent (drop (index + 1) (placed l)) in
     let is : c.is_dropped.result ≡ test source.tables old =
     c.is_dropped.ensures ∙ ap (λ t. test t c.deref.result.now) c.tables.ensures ∙ ap (test source.tables) c.deref.ensures in
-    read_from canonical weights (is_some c.args.numeric) old place c.args.c ready new next after (reading_in_context canonical weights p ps)
+    read_from canonical weights (is_some c.args.numeric) old index c.args.c ready new next after (reading_in_context canonical weights p ps)
     within c.requires.here
     (no_marks_for c.args.numeric (weights_of canonical source.tables) canonical.class (accepted_tables_know_no_marks_before canonical source.tables c.keep_promise.ensures))
     (reading_otherwise canonical weights (is_some c.args.numeric) p ps c.requires.ordinary

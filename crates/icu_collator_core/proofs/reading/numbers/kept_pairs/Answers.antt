@@ -2,7 +2,7 @@ use Rattle.std.proofs.Common.{◌∙◌, ap, sym, arith}
 use Rattle.std.proofs.lemmas.List.{take_all}
 use Rattle.icu_collator_core.specs.NumberBytes.{evened}
 use Rattle.icu_collator_core.specs.Numbers.{pairs_of, without_last_zeros}
-use Rattle.icu_collator_core.proofs.numbers.PairPlaceLemmas.{pair_goes, pairs_stay, none_stays, pairs_length}
+use Rattle.icu_collator_core.proofs.numbers.PairIndexLemmas.{pair_goes, pairs_stay, none_stays, pairs_length}
 use Rattle.icu_collator_core.proofs.reading.numbers.kept_pairs.Goals as goal
 
 pub pairs-init : goal.pairs-init

@@ -1,5 +1,5 @@
 use Rattle.std.proofs.Common.{◌≡◌, ◌+◌, ◌-◌, ◌*◌, ◌%◌, ◌<◌, length, get_or, arith}
-use Rattle.icu_collator_core.proofs.numbers.PairPlaceLemmas.{pair_is}
+use Rattle.icu_collator_core.proofs.numbers.PairIndexLemmas.{pair_is}
 use Rattle.icu_collator_core.proofs.reading.numbers.pair_at.Goals.{then-second-eq0, else-second-eq0}
 use Rattle.icu_collator_core.proofs.reading.numbers.pair_at.Goals as goal
 

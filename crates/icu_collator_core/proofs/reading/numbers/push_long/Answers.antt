@@ -2,7 +2,7 @@ use Rattle.std.proofs.Common.{◌≡◌, ◌∙◌, ◌+◌, ◌*◌, ◌<◌, �
 use Rattle.icu_collator_core.specs.ElementLists.{unpacked}
 use Rattle.icu_collator_core.specs.NumberBytes.{long_bytes}
 use Rattle.icu_collator_core.specs.Numbers.{elements_of_bytes}
-use Rattle.icu_collator_core.proofs.numbers.PairPlaceLemmas.{bytes_appended, bytes_ended, long_is, long_length}
+use Rattle.icu_collator_core.proofs.numbers.PairIndexLemmas.{bytes_appended, bytes_ended, long_is, long_length}
 use Rattle.icu_collator_core.proofs.reading.numbers.push_long.Goals as goal
 
 pub loop-index-preserved : goal.loop-index-preserved

@@ -3,5 +3,5 @@ use Rattle.icu_collator_core.specs.AlikeLists.{IsToldAt}
 use Rattle.icu_collator_core.specs.ReadSources.{weights_by}
 use Rattle.icu_collator_core.proofs.reading.prefixes.is_told_alone.Given as goal
 
-abbrev pub invariant-loop-place : goal.invariant-loop-place
-invariant-loop-place l = (numeric : Option ℕ) (k : ℕ) → k < l.place → IsToldAt (weights_by numeric l.sound) l.list k (get_or l.list k 0)
+abbrev pub invariant-loop-index : goal.invariant-loop-index
+invariant-loop-index l = (numeric : Option ℕ) (k : ℕ) → k < l.index → IsToldAt (weights_by numeric l.sound) l.list k (get_or l.list k 0)

@@ -5,4 +5,4 @@ use Rattle.icu_collator_core.proofs.lookups.LookedUpTextLemmas.{HasRead}
 use Rattle.icu_collator_core.proofs.reading.prefixes.nearest_text.Given as goal
 
 abbrev pub invariant-loop-n : goal.invariant-loop-n
-invariant-loop-n l = HasRead (pools_of l.source) (trie_units l.trie) (characters_before l.list l.place) l.n l.cursor l.longest
+invariant-loop-n l = HasRead (pools_of l.source) (trie_units l.trie) (characters_before l.list l.index) l.n l.cursor l.longest

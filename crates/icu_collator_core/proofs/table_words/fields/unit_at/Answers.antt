@@ -3,4 +3,4 @@ use Rattle.icu_collator_core.proofs.checks.CheckedListLemmas.{none_index}
 use Rattle.icu_collator_core.proofs.table_words.fields.unit_at.Goals as goal
 
 pub returns-in-None : goal.returns-in-None
-returns-in-None c = none_index c.args.contexts.now c.args.place (sym c.in-None.ensures.item)
+returns-in-None c = none_index c.args.contexts.now c.args.index (sym c.in-None.ensures.item)

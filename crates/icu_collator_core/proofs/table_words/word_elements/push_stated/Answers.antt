@@ -11,12 +11,12 @@ use Rattle.icu_collator_core.proofs.table_words.word_elements.push_stated.Goals 
 pub loop-i-preserved : goal.loop-i-preserved
 loop-i-preserved c =
     let list = c.args.ce32s.now in
-    let place = c.args.place in
+    let index = c.args.index in
     let i = c.loop-i.i in
-    let more = filtered_more stated_element list place i in
-    let seen = filter_map stated_element (items_at list place i) in
-    let all = filter_map stated_element (items_at list place (i + 1)) in
-    let found = option_and_then stated_element (slice_get list (place + i)) in
+    let more = filtered_more stated_element list index i in
+    let seen = filter_map stated_element (items_at list index i) in
+    let all = filter_map stated_element (items_at list index (i + 1)) in
+    let found = option_and_then stated_element (slice_get list (index + i)) in
     elim c.match-stated_at.branch [
       | in-Some+in_ok-push w ↦ adds_one c.args.elements.now.items c.loop-i.elements.items c.match-stated_at.elements.items seen all found
           w.in-Some.element c.loop-i.invariant more w.in-Some.ensures (ap (λ v. v.items) w.elements-is ∙ w.in_ok-push.ensures.ok)

@@ -10,12 +10,12 @@ use Rattle.icu_collator_core.proofs.table_words.word_elements.push_unpacked.Goal
 pub loop-i-preserved : goal.loop-i-preserved
 loop-i-preserved c =
     let list = c.args.ces.now in
-    let place = c.args.place in
+    let index = c.args.index in
     let i = c.loop-i.i in
-    let more = mapped_more element_of list place i in
-    let seen = map element_of (items_at list place i) in
-    let all = map element_of (items_at list place (i + 1)) in
-    let found = option_map element_of (slice_get list (place + i)) in
+    let more = mapped_more element_of list index i in
+    let seen = map element_of (items_at list index i) in
+    let all = map element_of (items_at list index (i + 1)) in
+    let found = option_map element_of (slice_get list (index + i)) in
     elim c.match-get.branch [
       | in-Some+in_ok-push w ↦ adds_one c.args.elements.now.items c.loop-i.elements.items c.match-get.elements.items seen all found
           w.new.result c.loop-i.invariant more (ap (λ b. Some (element_of b)) w.new.ensures ∙ ap (option_map element_of) w.in-Some.ensures.item)

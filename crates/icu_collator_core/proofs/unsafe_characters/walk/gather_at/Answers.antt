@@ -1,6 +1,6 @@
 use Rattle.std.proofs.Common.{◌≡◌, ℕ, true, subst, sym, rules, ◌∙◌, ap}
 use Rattle.std.specs.Char.{IsScalar}
-use Rattle.icu_codepointtrie.specs.Places.{value_at}
+use Rattle.icu_codepointtrie.specs.Slots.{value_at}
 use Rattle.icu_normalizer_core.specs.BorrowedMeaning.{borrowed_meaning}
 use Rattle.icu_collator_core.specs.TableMeaning.{TableWord, counting_word, word_at}
 use Rattle.icu_collator_core.specs.UnsafeWords.{MakesUnsafeIn, WordMakesUnsafe, names_context}

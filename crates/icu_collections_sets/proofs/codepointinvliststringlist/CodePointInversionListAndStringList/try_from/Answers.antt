@@ -4,4 +4,4 @@ use Rattle.icu_collections_sets.proofs.codepointinvliststringlist.CodePointInver
 
 pub returns-in-NotUnique : goal.returns-in-NotUnique
 returns-in-NotUnique c =
-    not_unique c.args.strings.items c.in-Some.place c.remove-text.result (search rules) (search rules) (search rules) (search rules)
+    not_unique c.args.strings.items c.in-Some.index c.remove-text.result (search rules) (search rules) (search rules) (search rules)

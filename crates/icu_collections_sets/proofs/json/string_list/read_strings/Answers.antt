@@ -16,11 +16,11 @@ returns-in_default-as_str c = λ texts is.
 pub loop-item-preserved : goal.loop-item-preserved
 loop-item-preserved c =
     let items = c.deref-item-items.result.now in
-    let place = c.loop-item.item-index in
+    let index = c.loop-item.item-index in
     let text = c.in_ok-from_str.field-0 in
     let texts = c.loop-item.texts.items in
     let ok = c.is_err.ensures.negation ∙ ap not c.if-is_err.false in
     let more = c.push.ensures.items ∙ ap (λ (b : Bool). cond b (texts ++ (text ∷ [])) texts) ok in
     let is = string_of (view c.item-item.result) c.in-Some-as_str.text.now (sym c.in-Some-as_str.ensures) in
-    let at = ap string c.in_ok-from_str.ensures.ok ∙ sym is ∙ sym (item_at-map items place c.item-item.result c.loop-item-test.true c.item-item.is) in
-    ap (λ xs. map string (map string_bytes xs)) more ∙ map_more_texts texts text (map view items) place (omega (arith, c.loop-item-test.true, length-map items view)) c.loop-item.invariant at
+    let at = ap string c.in_ok-from_str.ensures.ok ∙ sym is ∙ sym (item_at-map items index c.item-item.result c.loop-item-test.true c.item-item.is) in
+    ap (λ xs. map string (map string_bytes xs)) more ∙ map_more_texts texts text (map view items) index (omega (arith, c.loop-item-test.true, length-map items view)) c.loop-item.invariant at

@@ -25,14 +25,14 @@ loop-task-preserved c =
     c.in_default-take.ensures.taken
 
 pub returns-in-Err-clause-stops : goal.returns-in-Err-clause-stops
-returns-in-Err-clause-stops c place e =
+returns-in-Err-clause-stops c index e =
     on_way_stuck c.args.units.now c.args.limit (jobs_left c.args.self.now) (pairs_read c.args.self.now) c.in-Some.task.key.items c.in-Some.task.part
     (jobs_left c.loop-task.self) (reverse (map job_of c.pop.new.self.items)) (jobs_left c.take.new.self)
     (pairs_read c.loop-task.self) (pairs_read c.take.new.self)
     (popped_first c.loop-task.self.tasks.items c.pop.new.self.items c.in-Some.task c.in-Some.ensures.items)
     c.loop-task.invariant
-    place
-    (c.in-Err.ensures.stuck place e)
+    index
+    (c.in-Err.ensures.stuck index e)
 
 pub returns-clause-read : goal.returns-clause-read
 returns-clause-read c =

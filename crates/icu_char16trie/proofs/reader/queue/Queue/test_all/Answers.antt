@@ -30,14 +30,14 @@ loop-task-preserved g c =
     }
 
 pub returns-in-Err-clause-stops : goal.returns-in-Err-clause-stops
-returns-in-Err-clause-stops g c place e =
+returns-in-Err-clause-stops g c index e =
     on_way_stuck c.args.units.now c.args.limit (jobs_left c.args.self.now) [] c.in-Some.task.key.items c.in-Some.task.part
     (jobs_left c.loop-task.self) (reverse (map job_of c.pop.new.self.items)) []
     c.loop-task.invariant.testing.0 []
     (popped_first c.loop-task.self.tasks.items c.pop.new.self.items c.in-Some.task c.in-Some.ensures.items)
     c.loop-task.invariant.testing.1
-    place
-    (c.in-Err.ensures.stuck place (error_at c.in-Err.error place e))
+    index
+    (c.in-Err.ensures.stuck index (error_at c.in-Err.error index e))
 
 pub returns-clause-tested : goal.returns-clause-tested
 returns-clause-tested g c =

@@ -3,5 +3,5 @@ use Rattle.std.specs.Prelude.{slice_index}
 use Rattle.icu_codepointtrie.specs.Layouts.{index_cell}
 use Rattle.icu_codepointtrie.proofs.builder.layout.Layout.head.Given as goal
 
-abbrev pub invariant-loop-place : goal.invariant-loop-place
-invariant-loop-place l = (length l.head.items ≡ l.place) × ((k : ℕ) → k < l.place → slice_index l.head.items k ≡ index_cell l.self k)
+abbrev pub invariant-loop-slot : goal.invariant-loop-slot
+invariant-loop-slot l = (length l.head.items ≡ l.slot) × ((k : ℕ) → k < l.slot → slice_index l.head.items k ≡ index_cell l.self k)

@@ -13,15 +13,15 @@ elements-preserved c =
     let left_out = c.args.left_out in
     let few : left_out ≤ 1 = c.requires.few in
     let from = c.args.from in
-    let place = c.elements.place in
+    let index = c.elements.index in
     let so_far = c.elements.invariant in
     let before = c.elements.self-inside in
     let length_before = c.elements.length in
-    let x = c.index-elements-place.result in
+    let x = c.index-elements-index.result in
     let primary = c.primary-primary.result in
     let primary_is : primary ≡ x / 2 ^ 32 = c.primary-primary.ensures in
-    let inside : place < length xs = c.elements-test.true in
-    let onward : from ≤ place = so_far.onward in
+    let inside : index < length xs = c.elements-test.true in
+    let onward : from ≤ index = so_far.onward in
     let room : length_before ≤ 510 = c.if-length.true in
     elim c.if-primary-ne0.branch [
       | then-primary-ne0+else-primary-variable_end+else-not-is_short w ↦
@@ -38,9 +38,9 @@ elements-preserved c =
             array = length-set _ _ _ ∙ length-set _ _ _ ∙ so_far.array;
             room = omega (arith, room, few);
             full = λ long. absurd (let at = so_far.full long in omega (arith, at, room));
-            plain = all_more xs from place x onward inside c.index-elements-place.is (GivesPlain c.args.lead c.args.variable_end) so_far.plain
+            plain = all_more xs from index x onward inside c.index-elements-index.is (GivesPlain c.args.lead c.args.variable_end) so_far.plain
                 (λ _. record { byte = byte; led = led; counts = counts });
-            put = bytes_more xs from place x onward inside c.index-elements-place.is (own_bytes left_out) c.args.self.now.items _ _ so_far.put
+            put = bytes_more xs from index x onward inside c.index-elements-index.is (own_bytes left_out) c.args.self.now.items _ _ so_far.put
                 (two_put_in before.is_long before.list.items before.array length_before c.args.lead second left_out few so_far.full room so_far.array
                 ∙ ap (λ l. cond before.is_long before.list.items (take length_before before.array) ++ l) (sym (two_bytes left_out x c.args.lead second some led rest)));
           }
@@ -52,9 +52,9 @@ elements-preserved c =
             array = so_far.array;
             room = omega (arith, room);
             full = so_far.full;
-            plain = all_more xs from place x onward inside c.index-elements-place.is (GivesPlain c.args.lead c.args.variable_end) so_far.plain
+            plain = all_more xs from index x onward inside c.index-elements-index.is (GivesPlain c.args.lead c.args.variable_end) so_far.plain
                 (λ some. absurd (some none));
-            put = bytes_more xs from place x onward inside c.index-elements-place.is (own_bytes left_out) c.args.self.now.items _ _ so_far.put
+            put = bytes_more xs from index x onward inside c.index-elements-index.is (own_bytes left_out) c.args.self.now.items _ _ so_far.put
                 (sym (append-nil _) ∙ ap (λ l. cond before.is_long before.list.items (take length_before before.array) ++ l) (sym (no_bytes left_out x none)));
           }
     ]

@@ -1,6 +1,6 @@
 use Rattle.std.proofs.Common.{◌≡◌, subst, rules, ◌∙◌, ap}
 use Rattle.std.specs.Char.{IsScalar}
-use Rattle.icu_codepointtrie.specs.Places.{value_at}
+use Rattle.icu_codepointtrie.specs.Slots.{value_at}
 use Rattle.icu_collator_core.specs.PrefixFaults.{IsAmong}
 use Rattle.icu_collator_core.specs.TableMeaning.{pools_of, word_at}
 use Rattle.icu_collator_core.specs.WeightLists.{Grows}

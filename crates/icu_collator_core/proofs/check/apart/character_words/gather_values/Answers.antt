@@ -16,7 +16,7 @@ returns-in_ok-gather_listed-in-Some c =
     let units = trie_of pools.contexts c.index_of.result in
     grown_same (HasEntry c.in-Some.list.items) (HasValue pools c.args.word) c.args.words.now.items c.gather_listed.new.words.items
     (values_read pools c.args.word c.in-Some.list.items
-    (subst (λ place. AreFolded keeps_nothing tt (trie_of pools.contexts place) c.in-Some.list.items) c.index_of.ensures.index
+    (subst (λ index. AreFolded keeps_nothing tt (trie_of pools.contexts index) c.in-Some.list.items) c.index_of.ensures.index
     (found_one (IsUnitTrie units → ⊥) (λ list. AreFolded keeps_nothing tt units list.items) c.in_ok-found.found c.in-Some.list c.in-Some.is
     c.in_ok-found.ensures.values))
     c.values_of.ensures.bound)
@@ -28,5 +28,5 @@ returns-in-None c =
     let units = trie_of pools.contexts c.index_of.result in
     grown_by_none (HasValue pools c.args.word) c.args.words.now.items
     (no_values pools c.args.word
-    (subst (λ place. IsUnitTrie (trie_of pools.contexts place) → ⊥) c.index_of.ensures.index
+    (subst (λ index. IsUnitTrie (trie_of pools.contexts index) → ⊥) c.index_of.ensures.index
     (found_nothing (IsUnitTrie units → ⊥) (λ list. AreFolded keeps_nothing tt units list.items) c.in_ok-found.found c.in-None.is c.in_ok-found.ensures.values)))

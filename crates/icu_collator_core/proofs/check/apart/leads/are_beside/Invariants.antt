@@ -4,5 +4,5 @@ use Rattle.icu_collator_core.specs.ElementLists.{unpacked}
 use Rattle.icu_collator_core.specs.WeightLists.{is_beside_lead}
 use Rattle.icu_collator_core.proofs.check.apart.leads.are_beside.Given as goal
 
-abbrev pub invariant-loop-place : goal.invariant-loop-place
-invariant-loop-place l = list_all (λ lead. list_all (is_beside_lead lead) (unpacked l.elements)) (take l.place l.leads) ≡ true
+abbrev pub invariant-loop-index : goal.invariant-loop-index
+invariant-loop-index l = list_all (λ lead. list_all (is_beside_lead lead) (unpacked l.elements)) (take l.index l.leads) ≡ true

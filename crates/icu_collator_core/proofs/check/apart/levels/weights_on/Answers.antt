@@ -9,7 +9,7 @@ pub returns : goal.returns
 returns c =
     let level = c.args.level in
     let list = c.args.elements.now in
-    let past = c.loop-place-test.false in
-    c.loop-place.invariant
-    ∙ ap (map (λ bits. weight_on level (element_of bits))) (take_all c.loop-place.place list (omega (arith, past)))
+    let past = c.loop-index-test.false in
+    c.loop-index.invariant
+    ∙ ap (map (λ bits. weight_on level (element_of bits))) (take_all c.loop-index.index list (omega (arith, past)))
     ∙ sym (map-map (weight_on level) element_of list)

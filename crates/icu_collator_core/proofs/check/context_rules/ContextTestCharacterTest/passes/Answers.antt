@@ -1,6 +1,6 @@
 use Rattle.std.proofs.Common.{◌↔◌, subst}
 use Rattle.std.specs.Bool.{IsTrue}
-use Rattle.icu_codepointtrie.specs.Places.{value_at}
+use Rattle.icu_codepointtrie.specs.Slots.{value_at}
 use Rattle.icu_normalizer_core.specs.BorrowedMeaning.{borrowed_meaning}
 use Rattle.icu_collator_core.specs.ContextFaults.{entry_in}
 use Rattle.icu_collator_core.specs.ContextRules.{KeepsContextRules}

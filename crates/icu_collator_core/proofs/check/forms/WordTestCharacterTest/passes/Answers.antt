@@ -1,6 +1,6 @@
 use Rattle.std.proofs.Common.{◌↔◌, sym, ◌∙◌, subst}
 use Rattle.std.specs.Bool.{IsTrue}
-use Rattle.icu_codepointtrie.specs.Places.{value_at}
+use Rattle.icu_codepointtrie.specs.Slots.{value_at}
 use Rattle.icu_collator_core.specs.TableMeaning.{pools_of}
 use Rattle.icu_collator_core.specs.WordForms.{IsWord, keeps_special}
 use Rattle.icu_collator_core.proofs.checks.CheckedListLemmas.{word_same}

@@ -12,4 +12,4 @@ invariant-reading l =
     }
 
 abbrev pub decreases-reading : goal.decreases-reading
-decreases-reading l = small_vec_len l.self.list - l.self.place
+decreases-reading l = small_vec_len l.self.list - l.self.index

@@ -14,7 +14,7 @@ returns-then-self-len-clause-left c =
     let source = self.checked.now in
     let over = c.if-self-len.true ∙ c.len.ensures.value in
     let none : elements_left self ≡ [] =
-    nothing_left (canonical_by source) (weights_by self.numeric source) (is_some self.numeric) self.ready.items self.given self.list.items self.place over (c.requires over) in
+    nothing_left (canonical_by source) (weights_by self.numeric source) (is_some self.numeric) self.ready.items self.given self.list.items self.index over (c.requires over) in
     (none, none)
 
 pub returns-clause-left : goal.returns-clause-left
@@ -28,4 +28,4 @@ returns-clause-left c =
     let is : bits ≡ slice_index ready self.given =
     get_or_read c.deref.result.now self.given bits inside_deref c.index-deref-self.is 0 ∙ ap (λ l. slice_index l self.given) c.deref.ensures in
     given_then ready self.given bits
-    (elements_from (canonical_by source) (weights_by self.numeric source) (is_some self.numeric) self.list.items self.place) inside is
+    (elements_from (canonical_by source) (weights_by self.numeric source) (is_some self.numeric) self.list.items self.index) inside is

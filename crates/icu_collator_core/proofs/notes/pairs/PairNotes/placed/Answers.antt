@@ -5,6 +5,6 @@ use Rattle.icu_collator_core.proofs.notes.pairs.PairNotes.placed.Goals as goal
 pub loop-pair-preserved : goal.loop-pair-preserved
 loop-pair-preserved c = λ source all.
     let pair = c.pair-item.result in
-    let place = c.loop-pair.pair-index in
-    let within : place < length c.args.pairs.now = search rules in
-    c.put.ensures source (subst (IsPairNote source) (sym c.pair-item.is) (all place pair within)) (c.loop-pair.invariant source all)
+    let slot = c.loop-pair.pair-index in
+    let within : slot < length c.args.pairs.now = search rules in
+    c.put.ensures source (subst (IsPairNote source) (sym c.pair-item.is) (all slot pair within)) (c.loop-pair.invariant source all)

@@ -14,11 +14,11 @@ pub returns : goal.returns
 returns c = λ told weights d said ok further f.
     let entry = table_word c.args.self in
     let list = c.args.list.now in
-    let place = c.args.place in
-    let front = reverse (take place list) in
-    let turned = scalars_back (take place list) ok in
+    let index = c.args.index in
+    let front = reverse (take index list) in
+    let turned = scalars_back (take index list) ok in
     let few : (xs : List ℕ) → _ = λ xs. length-take longest_prefix xs in
-    prefix_is entry (characters_behind further list place) weights d said
+    prefix_is entry (characters_behind further list index) weights d said
     (scalars_front longest_prefix (front ++ further) (scalars_join front further turned f)) (let n = few (front ++ further) in omega (arith, n))
     ∙ ap (option_and_then (λ text. elements_of_word (pools_of c.args.self.source.now) text.word)) (c.is_prefix_told.ensures told further)
-    ∙ sym (prefix_is entry (characters_before list place) weights d said (scalars_front longest_prefix front turned) (let n = few front in omega (arith, n)))
+    ∙ sym (prefix_is entry (characters_before list index) weights d said (scalars_front longest_prefix front turned) (let n = few front in omega (arith, n)))

@@ -12,8 +12,8 @@ use Rattle.icu_collator_core.proofs.table_words.counting_words.CountingWord.pref
 pub returns-clause-record : goal.returns-clause-record
 returns-clause-record c = λ weights d said ok.
     let list = c.args.list.now in
-    let front = take c.args.place list in
-    let count = before_count list c.args.place c.requires in
-    prefix_is (table_word c.args.self) (characters_before list c.args.place) weights d said
+    let front = take c.args.index list in
+    let count = before_count list c.args.index c.requires in
+    prefix_is (table_word c.args.self) (characters_before list c.args.index) weights d said
     (scalars_front longest_prefix (reverse front) (scalars_back front ok)) (omega (arith, count))
     ∙ ap (option_and_then (λ text. elements_of_word (pools_of c.args.self.source.now) text.word)) (sym c.found_prefix.ensures)

@@ -10,7 +10,7 @@ pub returns-in_ok-push_spelled-in-Some-clause-read : goal.returns-in_ok-push_spe
 returns-in_ok-push_spelled-in-Some-clause-read c = λ weights said ok.
     let canonical = borrowed_meaning c.args.canonical in
     let pools = pools_of c.args.self.source.now in
-    let ps = drop c.args.place (placed c.args.list.now.items) in
+    let ps = drop c.args.index (placed c.args.list.now.items) in
     let list = c.text_match-found.new.list.items in
     let next = c.text_match-found.result.next in
     match_spelled canonical weights pools c.args.c ps c.args.ready.now.items list next c.push_spelled.new.elements.items c.in-Some.word
@@ -22,7 +22,7 @@ pub returns-in_ok-push_alone-in-None-clause-read : goal.returns-in_ok-push_alone
 returns-in_ok-push_alone-in-None-clause-read c = λ weights said ok.
     let canonical = borrowed_meaning c.args.canonical in
     let pools = pools_of c.args.self.source.now in
-    let ps = drop c.args.place (placed c.args.list.now.items) in
+    let ps = drop c.args.index (placed c.args.list.now.items) in
     let list = c.text_match-found.new.list.items in
     let next = c.text_match-found.result.next in
     match_alone canonical weights pools c.args.c ps c.args.ready.now.items list next c.push_alone.new.elements.items

@@ -4,5 +4,5 @@ use Rattle.icu_collections_sets.specs.CodePoints.{holds}
 use Rattle.icu_collections_sets.proofs.sets.SpanLemmas.{UpTo}
 use Rattle.icu_collections_sets.proofs.codepointinvlist.inversion_list.CodePointInversionList.span.Given as goal
 
-abbrev pub invariant-loop-place : goal.invariant-loop-place
-invariant-loop-place l = UpTo (λ c. holds l.self c ≡ l.held) l.text (char_indices_rest l.place-iterator) (char_indices_offset l.place-iterator)
+abbrev pub invariant-loop-index : goal.invariant-loop-index
+invariant-loop-index l = UpTo (λ c. holds l.self c ≡ l.held) l.text (char_indices_rest l.index-iterator) (char_indices_offset l.index-iterator)

@@ -3,5 +3,5 @@ use Rattle.icu_normalizer_core.specs.CharacterWords.{class_with}
 use Rattle.icu_normalizer_core.specs.Settled.{key_at}
 use Rattle.icu_normalizer_core.proofs.canonical.builder.built_words.are_starters.Given as goal
 
-abbrev pub invariant-loop-place : goal.invariant-loop-place
-invariant-loop-place l = (k : ℕ) → k < l.place → class_with l.classes.given.now (key_at l.steps k) ≡ 0
+abbrev pub invariant-loop-index : goal.invariant-loop-index
+invariant-loop-index l = (k : ℕ) → k < l.index → class_with l.classes.given.now (key_at l.steps k) ≡ 0

@@ -4,7 +4,7 @@ use Rattle.icu_normalizer_core.proofs.canonical.builder.full_list_words.listed_w
 
 pub returns-clause-states : goal.returns-clause-states
 returns-clause-states c = λ s16 e more.
-    let place : length c.as_slice.result.now ≡ length c.args.scalars24.now.items = ap (λ (t : List ℕ). length t) c.as_slice.ensures.value in
+    let index : length c.as_slice.result.now ≡ length c.args.scalars24.now.items = ap (λ (t : List ℕ). length t) c.as_slice.ensures.value in
     let r = c.requires.room in
     let some = c.requires.some in
     list_stated s16 c.args.scalars24.now.items c.args.list.now c.append.new.scalars24.items

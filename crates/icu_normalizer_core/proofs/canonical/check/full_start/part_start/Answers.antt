@@ -9,9 +9,9 @@ pub loop-i-preserved : goal.loop-i-preserved
 loop-i-preserved c =
     elim c.match-number_at.branch [
       | in-Some w ↦
-          start_more (source_items c.args.words c.args.source) c.args.place c.loop-i.i w.in-Some.number (left_items c.loop-i.left) (left_items c.match-number_at.left)
+          start_more (source_items c.args.words c.args.source) c.args.index c.loop-i.i w.in-Some.number (left_items c.loop-i.left) (left_items c.match-number_at.left)
           c.loop-i.invariant (sym c.number_at.ensures ∙ w.in-Some.is) (ap left_items w.left-is ∙ w.with-left.ensures)
       | in_default w ↦
           ap left_items w.left-is
-          ∙ start_past (source_items c.args.words c.args.source) c.args.place c.loop-i.i (left_items c.loop-i.left) c.loop-i.invariant (sym c.number_at.ensures ∙ w.in_default.is)
+          ∙ start_past (source_items c.args.words c.args.source) c.args.index c.loop-i.i (left_items c.loop-i.left) c.loop-i.invariant (sym c.number_at.ensures ∙ w.in_default.is)
     ]

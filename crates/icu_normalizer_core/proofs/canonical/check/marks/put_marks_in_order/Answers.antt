@@ -3,16 +3,16 @@ use Rattle.icu_normalizer_core.specs.CanonicalMeaning.{meaning}
 use Rattle.icu_normalizer_core.proofs.decomposed_lists.MarkLemmas.{marks_all, marks_previous, nothing_in_order}
 use Rattle.icu_normalizer_core.proofs.canonical.check.marks.put_marks_in_order.Goals as goal
 
-pub loop-place-init : goal.loop-place-init
-loop-place-init c = (omega arith, nothing_in_order (meaning c.args.tables.now).class c.args.list.now)
+pub loop-index-init : goal.loop-index-init
+loop-index-init c = (omega arith, nothing_in_order (meaning c.args.tables.now).class c.args.list.now)
 
-pub loop-place-preserved : goal.loop-place-preserved
-loop-place-preserved c = (
+pub loop-index-preserved : goal.loop-index-preserved
+loop-index-preserved c = (
   omega arith,
   c.put_mark_in_order.ensures
-      ∙ marks_previous (meaning c.args.tables.now).class c.args.list.now c.loop-place.list c.loop-place.place (c.loop-place.place - 1)
-      (omega arith) (omega arith) c.loop-place.invariant.1,
+      ∙ marks_previous (meaning c.args.tables.now).class c.args.list.now c.loop-index.list c.loop-index.index (c.loop-index.index - 1)
+      (omega arith) (omega arith) c.loop-index.invariant.1,
 )
 
 pub returns : goal.returns
-returns c = marks_all _ c.args.list.now c.loop-place.list c.loop-place.place c.loop-place-test.false c.loop-place.invariant.1
+returns c = marks_all _ c.args.list.now c.loop-index.list c.loop-index.index c.loop-index-test.false c.loop-index.invariant.1

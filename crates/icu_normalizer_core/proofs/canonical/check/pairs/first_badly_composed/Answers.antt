@@ -8,28 +8,28 @@ use Rattle.icu_normalizer_core.proofs.faults.PairTestLemmas.{IsBadBelow, bad_mor
 use Rattle.icu_normalizer_core.proofs.canonical.check.pairs.first_badly_composed.Goals as goal
 use Rattle.icu_normalizer_core.proofs.canonical.check.pairs.first_badly_composed.Goals.{then-is_bad_pair, else-is_bad_pair}
 
-pub loop-place-preserved : goal.loop-place-preserved
-loop-place-preserved c =
-    let item : c.at-pair.result ≡ slice_index c.args.tables.now.pairs c.loop-place.place = c.at-pair.ensures.item 0 in
-    let inside : c.loop-place.place < length c.args.tables.now.pairs = let n = c.len-place-end.ensures in let k = c.loop-place-test.true in omega arith in
+pub loop-index-preserved : goal.loop-index-preserved
+loop-index-preserved c =
+    let item : c.at-pair.result ≡ slice_index c.args.tables.now.pairs c.loop-index.index = c.at-pair.ensures.item 0 in
+    let inside : c.loop-index.index < length c.args.tables.now.pairs = let n = c.len-index-end.ensures in let k = c.loop-index-test.true in omega arith in
     elim c.if-is_bad_pair.branch [
       | then-is_bad_pair w ↦
           let bad = bad_told (lists_of c.args.tables.now) c.at-pair.result (sym c.is_bad_pair.ensures ∙ w.if-is_bad_pair.true) in
-          let found = w.found-is ∙ w.least_of-found.ensures ∙ ap (λ (n : ℕ). least c.loop-place.found (Some n)) (w.composed_of.ensures ∙ ap pair_composed item) in
-          subst (λ (r : Option ℕ). IsLeastIn (IsBadBelow (lists_of c.args.tables.now) (c.loop-place.place + 1)) r) (sym found)
-          (bad_more (lists_of c.args.tables.now) c.loop-place.place c.loop-place.found (c.requires.pairs.composed c.loop-place.place inside)
-          (subst (IsBadPair (lists_of c.args.tables.now)) item bad) c.loop-place.invariant)
+          let found = w.found-is ∙ w.least_of-found.ensures ∙ ap (λ (n : ℕ). least c.loop-index.found (Some n)) (w.composed_of.ensures ∙ ap pair_composed item) in
+          subst (λ (r : Option ℕ). IsLeastIn (IsBadBelow (lists_of c.args.tables.now) (c.loop-index.index + 1)) r) (sym found)
+          (bad_more (lists_of c.args.tables.now) c.loop-index.index c.loop-index.found (c.requires.pairs.composed c.loop-index.index inside)
+          (subst (IsBadPair (lists_of c.args.tables.now)) item bad) c.loop-index.invariant)
       | else-is_bad_pair w ↦
-          subst (λ (r : Option ℕ). IsLeastIn (IsBadBelow (lists_of c.args.tables.now) (c.loop-place.place + 1)) r) (sym w.found-is)
-          (bad_none (lists_of c.args.tables.now) c.loop-place.place c.loop-place.found
+          subst (λ (r : Option ℕ). IsLeastIn (IsBadBelow (lists_of c.args.tables.now) (c.loop-index.index + 1)) r) (sym w.found-is)
+          (bad_none (lists_of c.args.tables.now) c.loop-index.index c.loop-index.found
           (λ bad. good_told (lists_of c.args.tables.now) c.at-pair.result (sym c.is_bad_pair.ensures ∙ w.if-is_bad_pair.false)
-          (subst (IsBadPair (lists_of c.args.tables.now)) (sym item) bad)) c.loop-place.invariant)
+          (subst (IsBadPair (lists_of c.args.tables.now)) (sym item) bad)) c.loop-index.invariant)
     ]
 
 pub returns : goal.returns
 returns c =
-    let n = c.len-place-end.ensures in
-    let past = c.loop-place-test.false in
-    let order = c.loop-place.auto.place-end in
-    least_same (IsBadBelow (lists_of c.args.tables.now) c.loop-place.place) (IsBadlyComposed (lists_of c.args.tables.now))
-    (λ d s w. (w.0, (let h = w.1 in omega arith), w.2)) (λ d s w. (w.0, (let h = w.1 in omega arith), w.2)) c.loop-place.found c.loop-place.invariant
+    let n = c.len-index-end.ensures in
+    let past = c.loop-index-test.false in
+    let order = c.loop-index.auto.index-end in
+    least_same (IsBadBelow (lists_of c.args.tables.now) c.loop-index.index) (IsBadlyComposed (lists_of c.args.tables.now))
+    (λ d s w. (w.0, (let h = w.1 in omega arith), w.2)) (λ d s w. (w.0, (let h = w.1 in omega arith), w.2)) c.loop-index.found c.loop-index.invariant

@@ -7,4 +7,4 @@ use Rattle.icu_normalizer_core.proofs.canonical.check.settle.listed_left.Goals a
 pub returns-in-None : goal.returns-in-None
 returns-in-None c =
     start_alone c.args.steps.now c.args.c c.one.result
-    (step_in_free c.args.steps.now c.args.c c.requires.free ∙ listed_none c.args.steps.now c.args.c c.in-None.ensures.place) c.one.ensures
+    (step_in_free c.args.steps.now c.args.c c.requires.free ∙ listed_none c.args.steps.now c.args.c c.in-None.ensures.index) c.one.ensures

@@ -2,23 +2,23 @@ use Rattle.std.proofs.Common.{◌≡◌, ℕ, ◌<◌, List, [], ◌∷◌, ◌+
 use Rattle.icu_normalizer_core.proofs.settling.DepthLemmas.{IsWalk, looks_left, walk_popped, walk_pushed, fewer_pushed}
 use Rattle.icu_normalizer_core.proofs.canonical.check.settle.settle_in_depth.Goals as goal
 
-pub loop-place-smaller-in-Continue-branch-4 : goal.loop-place-smaller-in-Continue-branch-4
-loop-place-smaller-in-Continue-branch-4 c =
-    let visited : List Bool = c.loop-place.visited.items in
+pub loop-index-smaller-in-Continue-branch-4 : goal.loop-index-smaller-in-Continue-branch-4
+loop-index-smaller-in-Continue-branch-4 c =
+    let visited : List Bool = c.loop-index.visited.items in
     let needed : ℕ = c.in-Some-needed_at.needed in
-    subst (λ (path : List ℕ). looks_left (set visited needed true) path < looks_left visited c.loop-place.path.items)
+    subst (λ (path : List ℕ). looks_left (set visited needed true) path < looks_left visited c.loop-index.path.items)
     (sym (c.in_ok-push-2.ensures.items ∙ ap (λ (path : List ℕ). path ++ needed ∷ []) c.in_ok-push.ensures.items))
-    (fewer_pushed visited c.loop-place.path.items c.pop.new.self.items c.in-Some.place needed c.in-Some.ensures.items
+    (fewer_pushed visited c.loop-index.path.items c.pop.new.self.items c.in-Some.index needed c.in-Some.ensures.items
     (subst (λ (l : List Bool). slice_get l needed ≡ Some false) c.deref.ensures.value c.in-Some-needed_at.ensures))
 
-pub loop-place-preserved-in-Continue-branch-4 : goal.loop-place-preserved-in-Continue-branch-4
-loop-place-preserved-in-Continue-branch-4 c =
-    let visited : List Bool = c.loop-place.visited.items in
+pub loop-index-preserved-in-Continue-branch-4 : goal.loop-index-preserved-in-Continue-branch-4
+loop-index-preserved-in-Continue-branch-4 c =
+    let visited : List Bool = c.loop-index.visited.items in
     let needed : ℕ = c.in-Some-needed_at.needed in
     let popped =
-    walk_popped c.args.steps.now c.loop-place.settled c.settle_at.new.settled visited c.loop-place.path.items c.pop.new.self.items c.in-Some.place
-    c.in-Some.ensures.items c.loop-place.invariant c.settle_at.ensures.starts in
+    walk_popped c.args.steps.now c.loop-index.settled c.settle_at.new.settled visited c.loop-index.path.items c.pop.new.self.items c.in-Some.index
+    c.in-Some.ensures.items c.loop-index.invariant c.settle_at.ensures.starts in
     subst (λ (path : List ℕ). IsWalk c.args.steps.now c.settle_at.new.settled (set visited needed true) path)
     (sym (c.in_ok-push-2.ensures.items ∙ ap (λ (path : List ℕ). path ++ needed ∷ []) c.in_ok-push.ensures.items))
-    (walk_pushed c.args.steps.now c.settle_at.new.settled visited c.pop.new.self.items c.in-Some.place needed popped.1 popped.0
+    (walk_pushed c.args.steps.now c.settle_at.new.settled visited c.pop.new.self.items c.in-Some.index needed popped.1 popped.0
     (subst (λ (l : List Bool). slice_get l needed ≡ Some false) c.deref.ensures.value c.in-Some-needed_at.ensures))

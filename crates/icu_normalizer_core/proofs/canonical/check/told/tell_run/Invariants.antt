@@ -7,7 +7,7 @@ abbrev pub invariant-loop-next : goal.invariant-loop-next
 invariant-loop-next l = record {
   from : l.fn.reached.code ≤ l.next.code;
   to : l.next.code ≤ l.end;
-  below : TellsBelow (lists_of l.tables) l.told.items l.next.code l.next.place;
+  below : TellsBelow (lists_of l.tables) l.told.items l.next.code l.next.index;
 }
 
 abbrev pub decreases-loop-next : goal.decreases-loop-next

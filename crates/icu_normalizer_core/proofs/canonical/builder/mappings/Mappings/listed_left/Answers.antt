@@ -2,7 +2,7 @@ use Rattle.std.proofs.Common.{None, Some, sym, ap, ◌∙◌, arith}
 use Rattle.std.specs.Prelude.{option_map}
 use Rattle.icu_normalizer_core.specs.Properties.{mapped_to}
 use Rattle.icu_normalizer_core.proofs.settling.SettlingLemmas.{got_at}
-use Rattle.icu_normalizer_core.proofs.builder.FirstMappingLemmas.{place_of}
+use Rattle.icu_normalizer_core.proofs.builder.FirstMappingLemmas.{index_of}
 use Rattle.icu_normalizer_core.proofs.builder.MappingReadLemmas.{apart_left, fixed_left, found_left, none_mapped, some_mapped, ungiven_left}
 use Rattle.icu_normalizer_core.proofs.canonical.builder.mappings.Mappings.listed_left.Goals as goal
 
@@ -18,15 +18,15 @@ returns-then-is_some c =
 
 pub returns-in-Some-copied : goal.returns-in-Some-copied
 returns-in-Some-copied c =
-    let at = place_of c.args.self.given.now c.args.places.now c.args.c (Some c.in-Some-copied.place) c.requires.places (c.in-Some-copied.ensures ∙ c.get.ensures.value) in
-    found_left c.args.self c.requires.sound c.args.settled.now c.args.c c.in-Some-copied.place c.index-settled-place.result c.requires.starts c.requires.unmapped
+    let at = index_of c.args.self.given.now c.args.indices.now c.args.c (Some c.in-Some-copied.index) c.requires.indices (c.in-Some-copied.ensures ∙ c.get.ensures.value) in
+    found_left c.args.self c.requires.sound c.args.settled.now c.args.c c.in-Some-copied.index c.index-settled-index.result c.requires.starts c.requires.unmapped
     (none_mapped c.built_in_step.result _ c.built_in_step.ensures (sym c.is_some.ensures ∙ c.if-is_some.false))
     (sym c.built_in_compatibility_step.ensures ∙ ap (option_map mapped_to) c.in_default.is) at.0 at.1
-    (got_at c.args.settled.now c.in-Some-copied.place c.index-settled-place.result (let h = at.0 in let n = c.requires.starts.count in omega arith) c.index-settled-place.is)
+    (got_at c.args.settled.now c.in-Some-copied.index c.index-settled-index.result (let h = at.0 in let n = c.requires.starts.count in omega arith) c.index-settled-index.is)
 
 pub returns-in-None : goal.returns-in-None
 returns-in-None c =
     ungiven_left c.args.self c.requires.sound c.args.c c.one-in-None.result c.requires.unmapped
     (none_mapped c.built_in_step.result _ c.built_in_step.ensures (sym c.is_some.ensures ∙ c.if-is_some.false))
     (sym c.built_in_compatibility_step.ensures ∙ ap (option_map mapped_to) c.in_default.is)
-    (place_of c.args.self.given.now c.args.places.now c.args.c None c.requires.places (c.in-None.ensures ∙ c.get.ensures.value)) c.one-in-None.ensures
+    (index_of c.args.self.given.now c.args.indices.now c.args.c None c.requires.indices (c.in-None.ensures ∙ c.get.ensures.value)) c.one-in-None.ensures

@@ -1,4 +1,0 @@
-use Rattle.icu_collator.proofs.common_front.passage.own_place.Goals as goal
-
-pub returns : goal.returns
-returns g c = c.place_to_begin.ensures (g.T.Characters.characters c.args.text) c.chars.ensures.spelled
