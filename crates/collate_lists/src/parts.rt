@@ -273,7 +273,7 @@ impl Parts {
         self.starts.remove(part + 1);
     }
 
-    /// Puts in index of each value the number that stands at it.
+    /// Puts in place of each value the number that stands at it.
     pub(crate) fn renumber(&mut self, numbers: &[usize])
         requires sound { IsSound self.old }
         requires numbers { All (λ value. value.slot < length numbers.now) (joined self.old.lists.items) }

@@ -77,7 +77,7 @@ pub fn take_out(index: &mut Index, name: &[u8]) -> bool
     index.remove(name).is_ok()
 }
 
-/// Puts a records file in the rank of the index's own, the names as they are, and tells whether it was taken.
+/// Puts a records file in the place of the index's own, the names as they are, and tells whether it was taken.
 pub fn adopt(index: &mut Index, file: &[u8]) -> bool
     ensures { MatchBool result (index.new ≡ reloaded (records_of file.now) index.old) (index.new ≡ index.old) }
 {

@@ -27,7 +27,7 @@ file, or of one that is put over another. Equal lines stay as they came. A last 
     --crlf           a CR before the end of a line isn't compared
     --numeric, --shifted, --upper-first, --strength VALUE (primary, secondary, tertiary, quaternary, identical),
     --alternate, --maxvariable, --caselevel, --casefirst VALUE, each also as NAME=VALUE
-    --unknown        lists the characters that the records don't name, in index of sorting
+    --unknown        lists the characters that the records don't name, in place of sorting
     --quiet          says nothing of these
     --progress       says how far it is
     --default-records FILE, --default-over ROOT FILE    for --records and --over, where neither is given

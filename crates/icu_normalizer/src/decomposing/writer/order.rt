@@ -23,7 +23,7 @@ pub(super) fn index_for(basis: FormData<'_>, list: &[char], class: u8) -> usize
     0
 }
 
-/// Puts a character in an index among the first `count` of a list, and those after it by one further on.
+/// Puts a character at an index among the first `count` of a list, and those after it by one further on.
 pub(super) fn insert_at(list: &mut [char; 64], index: usize, count: usize, c: char)
     requires within { index ≤ count }
     requires room { count < 64 }
@@ -33,7 +33,7 @@ pub(super) fn insert_at(list: &mut [char; 64], index: usize, count: usize, c: ch
     list[index] = c;
 }
 
-/// The class of the last of some characters, once one of this class was put in an index among them.
+/// The class of the last of some characters, once one of this class was put at an index among them.
 pub(super) fn last_class(index: usize, count: usize, class: u8, last: u8) -> u8
     ensures behind { index ≡ count → result ≡ class }
     ensures among { index < count → result ≡ last }
