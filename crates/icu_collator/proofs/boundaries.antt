@@ -10,7 +10,6 @@ pub mod DifferenceOrderLemmas
 pub mod TableBoundaryLemmas
 pub mod CountingLemmas
 pub mod NextCharacterLemmas
-pub mod PagedCharacterLemmas
 pub mod CommonBoundaryLemmas
 pub mod LetterLemmas
 pub mod SyllableLemmas

@@ -6,7 +6,6 @@ mod encoded;
 mod flat;
 mod flat_texts;
 mod fronts;
-mod iterators;
 mod levels;
 mod listed;
 mod orders;

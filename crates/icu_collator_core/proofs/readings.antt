@@ -11,7 +11,7 @@ pub mod FlatOrderLemmas
 pub mod FlatPartLemmas
 pub mod FlatReadLemmas
 pub mod FlatStepLemmas
-pub mod CollationNoteLemmas
+pub mod NoteListLemmas
 pub mod MarkReadLemmas
 pub mod MovedMarkLemmas
 pub mod ReachedLemmas

@@ -4,10 +4,11 @@ use Rattle.std.specs.Option.{is_some}
 use lib.Utf8.{scalar, scalars}
 use Rattle.icu_collator_types.specs.declared.elements.Element.{Element}
 use Rattle.icu_collator_core.specs.Acceptance.{CollationSource}
-use Rattle.icu_collator_core.specs.Boundaries.{IsApart, IsBoundary, after}
+use Rattle.icu_collator_core.specs.Boundaries.{IsApart, IsBoundary, after, is_accent}
 use Rattle.icu_collator_core.specs.Defaults.{special_primary}
 use Rattle.icu_collator_core.specs.ElementLists.{unpacked}
 use Rattle.icu_collator_core.specs.Elements.{elements_of_list, elements_within, placed_behind}
+use Rattle.icu_collator_core.specs.PlainCharacters.{IsPlainCharacter}
 use Rattle.icu_collator_core.specs.PlainWords.{IsReadUncounted, IsUnprefixed}
 use Rattle.icu_collator_core.specs.ReadSources.{canonical_by, weights_by}
 use Rattle.icu_collator_core.specs.declared.notes.flat_note.FlatNote.{FlatNote}
@@ -115,10 +116,16 @@ pub record IsFlat (source : CollationSource) (numeric : Option ℕ) (c before : 
 abbrev pub IsFlatUpTo : CollationSource → Option ℕ → ℕ → List ℕ → ℕ → ℕ → Type 0
 IsFlatUpTo source numeric c items lead trail = (before : ℕ) → before ≤ lead → IsFlat source numeric c before items trail
 
+-- a plain character before which no dot above is dropped: it has this element whatever stands beside it
+pub record IsBoundaryNote (source : CollationSource) (c bits : ℕ) : Type 0 where
+  pub plain : IsPlainCharacter source c bits
+  pub unaccented : is_accent c ≡ false
+  pub flat : (numeric : Option ℕ) (before : ℕ) → IsFlat source numeric c before (bits ∷ []) 0
+
 -- what is noted of a character is so
 abbrev pub IsFlatNote : CollationSource → ℕ → FlatNote → Type 0
 IsFlatNote source c Other = Unit {0}
-IsFlatNote source c (Boundary bits) = (numeric : Option ℕ) (before : ℕ) → IsFlat source numeric c before (bits ∷ []) 0
+IsFlatNote source c (Boundary bits) = IsBoundaryNote source c bits
 IsFlatNote source c (One bits lead trail) = (numeric : Option ℕ) → IsFlatUpTo source numeric c (bits ∷ []) lead trail
 IsFlatNote source c (Digit bits lead trail) = IsFlatUpTo source None c (bits ∷ []) lead trail
 IsFlatNote source c (Two first second lead trail) = (numeric : Option ℕ) → IsFlatUpTo source numeric c (first ∷ second ∷ []) lead trail

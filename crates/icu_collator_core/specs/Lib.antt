@@ -42,6 +42,7 @@ pub mod ElementLists
 pub mod MarkRuns
 pub mod MovedMarks
 pub mod PlainWords
+pub mod PlainCharacters
 pub mod AlikeLists
 pub mod JoinedTexts
 pub mod ReadSteps
@@ -53,7 +54,6 @@ pub mod ElementTexts
 pub mod UnsafeCharacters
 pub mod Boundaries
 pub mod UnsafeWords
-pub mod CollationNotes
 pub mod FlatLists
 pub mod FlatNotes
 pub mod NotePages

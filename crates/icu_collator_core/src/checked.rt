@@ -1,12 +1,13 @@
 //! Collation data: tables that were checked, with the canonical data that they are read with, and with notes of characters.
 
-ghost use Rattle.std.specs.Prelude.{◌≡◌, ◌↔◌, IfOk, IfSome, IsTrue, MatchResult, true};
+ghost use Rattle.std.specs.Prelude.{◌≡◌, ◌↔◌, ◌∷◌, ℕ, [], IfOk, IfSome, IsTrue, MatchResult, Option, false, true};
 ghost use Rattle.icu_normalizer_core.specs.BorrowedMeaning.{borrowed_tables};
 ghost use Rattle.icu_normalizer_core.specs.CanonicalMeaning.{meaning};
 ghost use Rattle.icu_collator_core.specs.Acceptance.{IsAccepted, IsRefusal};
-ghost use Rattle.icu_collator_core.specs.FlatNotes.{IsFlatNote};
-ghost use Rattle.icu_collator_core.specs.CollationNotes.{IsNoted, IsOwnBeginning, IsPlainCharacter};
+ghost use Rattle.icu_collator_core.specs.Boundaries.{is_accent};
+ghost use Rattle.icu_collator_core.specs.FlatNotes.{IsFlat, IsFlatNote};
 ghost use Rattle.icu_collator_core.specs.Pairs.{IsPair, noted_elements};
+ghost use Rattle.icu_collator_core.specs.PlainCharacters.{IsOwnBeginning, IsPlainCharacter};
 ghost use Rattle.icu_collator_core.specs.PlainWords.{IsUnprefixed};
 ghost use Rattle.icu_collator_core.specs.ReadSources.{IsAloneAnywhere};
 ghost use Rattle.icu_collator_core.specs.TableMeaning.{weights_of};
@@ -15,7 +16,6 @@ ghost use Rattle.icu_collator_core.specs.UnsafeCharacters.{IsUnsafe};
 
 use crate::check::TableFault;
 use crate::compressible_leads::{compressible_leads, is_compressible_by};
-use crate::notes::collation_notes::{CollationNote, collation_notes};
 use crate::notes::flat_note::FlatNote;
 use crate::notes::flat_notes::flat_notes;
 use crate::notes::found_pairs::pair_notes;
@@ -36,9 +36,7 @@ pub struct CheckedTables<'a> {
     /// The tables of both.
     sound: SoundTables<'a>,
     /// What is noted of the low characters.
-    low: Vec<CollationNote>,
-    /// By what low characters are read flat.
-    flat: Vec<FlatNote>,
+    low: Vec<FlatNote>,
     /// The same of those after them, in pages.
     pages: Vec<NotePage>,
     /// The same of pairs of characters.
@@ -53,7 +51,6 @@ impl Drop for CheckedTables<'_> {
         let CheckedTables {
             sound: _,
             low: _,
-            flat: _,
             pages: _,
             pairs: _,
             compressible: _,
@@ -64,7 +61,6 @@ impl Drop for CheckedTables<'_> {
 impl<'a> Model for CheckedTables<'a> {
     ghost use Rattle.icu_collator_core.specs.Acceptance.{CollationSource};
     ghost use Rattle.icu_collator_core.specs.FlatNotes.{AreFlatNotes};
-    ghost use Rattle.icu_collator_core.specs.CollationNotes.{AreNoted};
     ghost use Rattle.icu_collator_core.specs.CompressibleLeads.{AreCompressibleLeads};
     ghost use Rattle.icu_collator_core.specs.NotePages.{AreNotePages};
     ghost use Rattle.icu_collator_core.specs.Pairs.{ArePairNotes};
@@ -73,8 +69,7 @@ impl<'a> Model for CheckedTables<'a> {
 
     ghost view = { λ inside. inside.sound };
 
-    ghost invariant = { λ inside. AreNoted inside.sound inside.low.items
-        × AreFlatNotes inside.sound inside.flat.items
+    ghost invariant = { λ inside. AreFlatNotes inside.sound inside.low.items
         × AreNotePages inside.sound inside.pages.items
         × ArePairNotes inside.sound inside.pairs
         × AreCompressibleLeads inside.sound.tables.special_primaries.last_primaries inside.compressible };
@@ -101,15 +96,13 @@ impl<'a> CheckedTables<'a> {
     fn noted(alloc: Global, sound: SoundTables<'a>) -> Result<CheckedTables<'a>, AllocError>
         ensures { IfOk result (λ checked. checked ≡ sound.entry) }
     {
-        let low = collation_notes(alloc, &sound)?;
-        let flat = flat_notes(alloc, &sound)?;
+        let low = flat_notes(alloc, &sound)?;
         let pages = note_pages(alloc, &sound)?;
-        let pairs = pair_notes(alloc, &sound, flat.as_slice(), pages.as_slice())?;
+        let pairs = pair_notes(alloc, &sound, low.as_slice(), pages.as_slice())?;
         let compressible = compressible_leads(&sound.tables().special_primaries);
         Ok(CheckedTables {
             sound,
             low,
-            flat,
             pages,
             pairs,
             compressible,
@@ -153,34 +146,32 @@ impl<'a> CheckedTables<'a> {
     pub fn alone_element(&self, c: char) -> Option<CollationElement>
         ensures { IfSome result (λ bits. IsAloneAnywhere self.now c bits) }
     {
-        match self.collation_note(c) {
-            Some(note) => {
-                let element = note.alone()?;
-                Some(element)
-            }
+        match self.boundary_element(c) {
+            Some(element) => Some(element),
             None => find_alone(&self.sound, c),
         }
     }
 
     /// The element of a character that is read by itself, whatever stands before and after it, that is its own full list
-    /// (UAX 15), and at which the reading of a text may begin; `None` for another, for some that are so, and for all from
-    /// U+0380 on. It takes one read and no memory.
-    #[inline]
-    pub fn plain_element(&self, c: char) -> Option<CollationElement>
-        ensures { IfSome result (λ bits. IsPlainCharacter self.now c bits) }
+    /// (UAX 15), and at which the reading of a text may begin, be numbers read or not; `None` for another, for some that are
+    /// so, and for all from U+10000 on. It takes one read below U+0800 and two after, and no memory.
+    #[inline(always)]
+    pub fn boundary_element(&self, c: char) -> Option<CollationElement>
+        ensures plain { IfSome result (λ bits. IsPlainCharacter self.now c bits) }
+        ensures unaccented { IfSome result (λ bits. is_accent c ≡ false) }
+        ensures flat { IfSome result (λ bits. (numeric : Option ℕ) (before : ℕ) → IsFlat self.now numeric c before (bits ∷ []) 0) }
     {
-        let element = self.collation_note(c)?.plain()?;
+        let element = self.note(c)?.boundary_element()?;
         Some(element)
     }
 
-    /// Whether the reading of a text may begin at a character, and it is its own full list (UAX 15); `false` for another,
-    /// and for some that are so. Below U+0380 it takes one read; no memory is taken.
+    /// Whether the reading of a text may begin at a character, and it is its own full list (UAX 15). No memory is taken.
     #[inline]
     pub fn is_own_beginning(&self, c: char) -> bool
         ensures { IsTrue result → IsOwnBeginning (meaning self.now.canonical) (weights_of (meaning self.now.canonical) self.now.tables) c }
     {
-        match self.collation_note(c) {
-            Some(note) => note.is_beginning(),
+        match self.boundary_element(c) {
+            Some(_element) => true,
             None => self.sound.find_own_beginning(c),
         }
     }
@@ -201,29 +192,29 @@ impl<'a> CheckedTables<'a> {
         is_compressible_by(&self.compressible, lead)
     }
 
-    /// What is noted of a character; `None` for one after the low characters.
-    #[inline]
-    pub(crate) fn collation_note(&self, c: char) -> Option<CollationNote>
-        ensures { IfSome result (λ note. IsNoted self.now c note) }
+    /// What is noted of a character; `None` for one after the low characters and in no page.
+    #[inline(always)]
+    pub(crate) fn note(&self, c: char) -> Option<&FlatNote>
+        ensures { IfSome result (λ note. IsFlatNote self.now c note.now) }
     {
-        match self.low.get(c as usize) {
-            Some(note) => Some(*note),
-            None => None,
+        match self.flat_note(c) {
+            Some(note) => Some(note),
+            None => self.paged_note(c),
         }
     }
 
-    /// By what a character is read flat; `None` for one after the low characters.
+    /// What is noted of a character; `None` for one after the low characters.
     #[inline(always)]
     pub(crate) fn flat_note(&self, c: char) -> Option<&FlatNote>
         ensures { IfSome result (λ note. IsFlatNote self.now c note.now) }
     {
-        match self.flat.get(c as usize) {
+        match self.low.get(c as usize) {
             Some(note) => Some(note),
             None => None,
         }
     }
 
-    /// By what a character after the low ones is read flat; `None` for one in no page.
+    /// What is noted of a character after the low ones; `None` for one in no page.
     #[inline(always)]
     pub(crate) fn paged_note(&self, c: char) -> Option<&FlatNote>
         ensures { IfSome result (λ note. IsFlatNote self.now c note.now) }

@@ -1,7 +1,6 @@
 //! Notes of characters and of pairs of them, by which texts are read: made once for all, by the tables alone.
 
 pub(crate) mod boundaries;
-pub(crate) mod collation_notes;
 pub(crate) mod flat_elements;
 pub(crate) mod flat_note;
 pub(crate) mod flat_notes;

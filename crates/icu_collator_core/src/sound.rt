@@ -4,7 +4,7 @@ ghost use Rattle.std.specs.Prelude.{◌≡◌, ◌↔◌, [], ◌∷◌, ℕ, Li
 ghost use Rattle.icu_normalizer_core.specs.BorrowedMeaning.{borrowed_meaning, borrowed_tables};
 ghost use Rattle.icu_normalizer_core.specs.CanonicalMeaning.{meaning};
 ghost use Rattle.icu_collator_core.specs.Acceptance.{IsAccepted, IsRefusal};
-ghost use Rattle.icu_collator_core.specs.CollationNotes.{IsOwnBeginning};
+ghost use Rattle.icu_collator_core.specs.PlainCharacters.{IsOwnBeginning};
 ghost use Rattle.icu_collator_core.specs.TableMeaning.{weights_of};
 ghost use Rattle.icu_collator_core.specs.UnsafeWords.{AreUnsafeByRecords};
 ghost use Rattle.icu_collator_core.specs.UnsafeCharacters.{IsUnsafe, IsUnsafeItself};

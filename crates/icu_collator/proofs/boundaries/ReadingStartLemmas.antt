@@ -10,7 +10,7 @@ use Rattle.icu_collator_types.specs.declared.options.ResolvedCollatorOptions.{Re
 use Rattle.icu_collator_types.specs.Options.{is_numeric}
 use Rattle.icu_collator_core.specs.Acceptance.{CollationSource}
 use Rattle.icu_collator_core.specs.Collation.{Collation}
-use Rattle.icu_collator_core.specs.CollationNotes.{IsOwnBeginning}
+use Rattle.icu_collator_core.specs.PlainCharacters.{IsOwnBeginning}
 use Rattle.icu_collator_core.specs.PlainWords.{IsUnprefixed}
 use Rattle.icu_collator_core.specs.UnsafeCharacters.{IsSafe}
 use Rattle.icu_collator.specs.Boundaries.{GoesOn, IsPassage}

@@ -5,7 +5,7 @@ use Rattle.std.specs.Char.{IsScalar}
 use Rattle.std.proofs.lemmas.Bool.{false≢true}
 use Rattle.icu_normalizer_core.specs.Canonical.{Canonical, IsDecomposing}
 use Rattle.icu_collator_core.specs.Acceptance.{CollationSource}
-use Rattle.icu_collator_core.specs.CollationNotes.{IsOwnBeginning, IsPlainCharacter}
+use Rattle.icu_collator_core.specs.PlainCharacters.{IsOwnBeginning, IsPlainCharacter}
 use Rattle.icu_collator_core.specs.ReadSources.{IsAloneAnywhere}
 use Rattle.icu_collator_core.specs.UnsafeCharacters.{IsSafe, IsUnsafe}
 use Rattle.icu_collator_core.specs.Weights.{Weights}

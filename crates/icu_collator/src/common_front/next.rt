@@ -1,10 +1,8 @@
 //! What stands next in a text, by its next character.
 
-ghost use Rattle.std.specs.Prelude.{◌≡◌, [], ◌∷◌, ◌==◌, ℕ, false, true, IfSome, List, MatchOption};
+ghost use Rattle.std.specs.Prelude.{◌≡◌, [], ◌∷◌, ℕ, true, IfSome, List, MatchOption};
 ghost use Rattle.icu_normalizer_core.specs.BorrowedMeaning.{borrowed_meaning};
 ghost use Rattle.icu_normalizer_core.specs.Canonical.{IsDecomposing};
-ghost use Rattle.icu_collator_core.specs.CollationNotes.{IsPlainCharacter};
-ghost use Rattle.icu_collator_core.specs.ReadSources.{IsAloneAnywhere};
 ghost use Rattle.icu_collator_core.specs.UnsafeCharacters.{IsSafe};
 ghost use Rattle.icu_collator.specs.Boundaries.{IsPlain};
 ghost use Rattle.icu_collator.specs.Collators.{source_collation};
@@ -32,63 +30,13 @@ pub(super) fn first_of_full(canonical: CanonicalBorrowed<'_>, c: char) -> Option
     list.next()
 }
 
-/// The element of a character other than U+0303, if it is read by itself.
-fn alone_element(checked: &CheckedTables<'_>, c: char) -> Option<CollationElement>
-    ensures alone { IfSome result (λ bits. IsAloneAnywhere checked.now c bits) }
-    ensures other { IfSome result (λ bits. (c == 0x303) ≡ false) }
-{
-    if c == '\u{303}' {
-        return None;
-    }
-    let element = checked.alone_element(c)?;
-    Some(element)
-}
-
-/// The element of a plain character other than U+0303 that is its own full list, where one read tells it.
+/// The element of a plain character, where its note tells it.
 #[inline]
 fn noted_element(checked: &CheckedTables<'_>, c: char) -> Option<CollationElement>
-    ensures plain { IfSome result (λ bits. IsPlainCharacter checked.now c bits) }
-    ensures other { IfSome result (λ bits. (c == 0x303) ≡ false) }
-{
-    if c == '\u{303}' {
-        return None;
-    }
-    let element = checked.plain_element(c)?;
-    Some(element)
-}
-
-/// The element of a plain character other than U+0303 that is its own full list, by the tables; `None` for another, and for some
-/// that are so.
-fn own_element(checked: &CheckedTables<'_>, c: char) -> Option<CollationElement>
-    ensures plain { IfSome result (λ bits. IsPlainCharacter checked.now c bits) }
-    ensures other { IfSome result (λ bits. (c == 0x303) ≡ false) }
-{
-    if !checked.is_own_beginning(c) {
-        return None;
-    }
-    let element = alone_element(checked, c)?;
-    Some(element)
-}
-
-/// The element of a plain character other than U+0307 that is its own full list, where a page of notes tells it.
-#[inline]
-fn paged_element(checked: &CheckedTables<'_>, c: char) -> Option<CollationElement>
-    ensures { IfSome result (λ bits. IsPlain (source_collation checked.now) c bits) }
-{
-    if c == '\u{307}' {
-        return None;
-    }
-    let element = checked.boundary_element(c)?;
-    Some(element)
-}
-
-/// The element of a plain character below U+0800 that is its own full list.
-#[inline]
-fn low_element(checked: &CheckedTables<'_>, c: char) -> Option<CollationElement>
     ensures { IfSome result (λ bits. IsPlain (source_collation checked.now) c bits) }
 {
     checked.canonical().keep_promise();
-    let element = noted_element(checked, c)?;
+    let element = checked.boundary_element(c)?;
     Some(element)
 }
 
@@ -100,7 +48,10 @@ fn find_plain_element(checked: &CheckedTables<'_>, c: char) -> Option<CollationE
         return None;
     }
     let first = first_of_full(checked.canonical(), c)?;
-    let element = alone_element(checked, first)?;
+    if first == '\u{303}' {
+        return None;
+    }
+    let element = checked.alone_element(first)?;
     Some(element)
 }
 
@@ -109,20 +60,13 @@ fn find_plain_element(checked: &CheckedTables<'_>, c: char) -> Option<CollationE
 fn plain_element(checked: &CheckedTables<'_>, c: char) -> Option<CollationElement>
     ensures { IfSome result (λ bits. IsPlain (source_collation checked.now) c bits) }
 {
-    checked.canonical().keep_promise();
-    if c < '\u{800}' {
-        return low_element(checked, c);
-    }
-    if let Some(element) = paged_element(checked, c) {
+    if let Some(element) = noted_element(checked, c) {
         return Some(element);
     }
-    if checked.is_noted_dependent(c) {
+    if c < '\u{800}' || checked.is_noted_dependent(c) {
         return None;
     }
-    match own_element(checked, c) {
-        Some(element) => Some(element),
-        None => find_plain_element(checked, c),
-    }
+    find_plain_element(checked, c)
 }
 
 /// What stands next in a text, by its next character: `None` at its end.

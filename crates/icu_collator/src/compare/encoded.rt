@@ -9,38 +9,20 @@ ghost use Rattle.icu_collator.specs.ReadingStarts.{IsCommonStart};
 
 use super::flat_texts::{compare_ahead, compare_flat};
 use super::fronts::difference_and_boundary;
-use super::iterators::compare_characters;
+use super::orders::compare_read;
 use super::stretched::compare_stretched;
 use crate::common_front::{
     FirstDifference, behind, first_difference, order_by_difference, reading_start,
 };
 use crate::encodings::{Characters, PeekLow};
+use crate::read_texts::read_text;
 use icu_collator_core::checked::CheckedTables;
 use icu_collator_types::options::ResolvedCollatorOptions;
 use std::alloc::{AllocError, Global};
 use std::cmp::Ordering;
 
-/// The order of what stands in two texts after so many characters, by all levels of both. Fails only if memory is
-/// refused.
-fn compare_whole_behind<T: Characters, U: Characters>(
-    alloc: Global,
-    checked: &CheckedTables<'_>,
-    options: &ResolvedCollatorOptions,
-    left: T,
-    right: U,
-    index: usize,
-) -> Result<Ordering, AllocError>
-    requires left_reaches { index ≤ length (T.characters left) }
-    requires right_reaches { index ≤ length (U.characters right) }
-    ensures { IfOk result (λ order. order ≡ collation_order (source_collation checked.now) options.now (drop index (T.characters left)) (drop index (U.characters right))) }
-{
-    let lefts = behind(left.chars(), index);
-    let rights = behind(right.chars(), index);
-    let order = compare_characters(alloc, checked, options, lefts, rights)?;
-    Ok(order)
-}
-
-/// The order of what stands in two texts after so many characters. Fails only if memory is refused.
+/// The order of what stands in two texts after so many characters: both are read flat as far as it takes, or by their decomposed
+/// lists. Fails only if memory is refused.
 fn compare_behind<T: Characters, U: Characters>(
     alloc: Global,
     checked: &CheckedTables<'_>,
@@ -59,7 +41,9 @@ fn compare_behind<T: Characters, U: Characters>(
             return Ok(order);
         }
     }
-    let order = compare_whole_behind(alloc, checked, options, left, right, index)?;
+    let lefts = read_text(alloc, checked, options, behind(left.chars(), index))?;
+    let rights = read_text(alloc, checked, options, behind(right.chars(), index))?;
+    let order = compare_read(alloc, checked, options, lefts.as_read(), rights.as_read())?;
     Ok(order)
 }
 

@@ -1,11 +1,8 @@
 //! The comparison of two texts that are read flat: by their primaries, then by the elements after these.
 
-ghost use Rattle.std.specs.Prelude.{◌≡◌, ◌≤◌, [], IfOk, IfSome, drop, false, length, true};
-ghost use Rattle.icu_collator_core.specs.ElementLists.{unpacked};
-ghost use Rattle.icu_collator_core.specs.ElementTexts.{text_elements};
+ghost use Rattle.std.specs.Prelude.{◌≡◌, ◌≤◌, IfOk, IfSome, drop, false, length};
 ghost use Rattle.icu_collator.specs.Collators.{source_collation};
-ghost use Rattle.icu_collator_types.specs.Options.{is_at_least, is_shifted};
-ghost use Rattle.icu_collator_types.specs.declared.options.Strength.TheVariants.{Identical};
+ghost use Rattle.icu_collator_types.specs.Options.{is_shifted};
 ghost use Rattle.icu_collator.specs.FlatOrders.{HaveSamePrimaries};
 ghost use Rattle.icu_collator.specs.Order.{collation_order};
 
@@ -15,7 +12,7 @@ use super::weights::compare_behind_primaries;
 use crate::common_front::behind;
 use crate::encodings::Characters;
 use crate::levels::counted_elements::variable_end;
-use crate::read_texts::{ReadText, is_unshifted, numeric_lead};
+use crate::read_texts::{ReadText, is_unshifted, numeric_lead, read_elements};
 use icu_collator_core::checked::CheckedTables;
 use icu_collator_core::flat::FlatElements;
 use icu_collator_types::options::{ResolvedCollatorOptions, Strength};
@@ -25,74 +22,10 @@ use std::cmp::Ordering;
 /// How many elements of each text are kept for the levels after the primaries.
 const KEPT: usize = 64;
 
-/// Reads what stands in a text after so many characters into an empty list: flat, or else by stretches; `false` where it can't be read
-/// so, or has more elements than the list has room for. Fails only if memory is refused.
-#[inline(always)]
-fn read_kept<T: Characters>(
-    alloc: Global,
-    checked: &CheckedTables<'_>,
-    numeric: Option<u8>,
-    text: T,
-    index: usize,
-    elements: &mut FlatElements<KEPT>,
-) -> Result<bool, AllocError>
-    requires reaches { index ≤ length (T.characters text) }
-    requires empty { elements.old.items ≡ [] }
-    ensures { IfOk result (λ is_read. is_read ≡ true → unpacked elements.new.items ≡ text_elements checked.now numeric (drop index (T.characters text))) }
-{
-    if checked.read_flat(numeric, behind(text.chars(), index), elements) {
-        return Ok(true);
-    }
-    let chars = behind(text.chars(), index);
-    let is_read = checked.read_stretches(alloc, numeric, chars, elements)?;
-    Ok(is_read)
-}
-
 /// The order of what stands in two texts with the same primaries after so many characters, by the levels after these, if both
-/// can be read so and have few elements: `None` for others. Fails only if memory is refused.
+/// can be read flat or by stretches and have few elements: `None` for others, and at `Identical`. Fails only if memory is refused.
 #[inline(never)]
 fn compare_kept<T: Characters, U: Characters>(
-    alloc: Global,
-    checked: &CheckedTables<'_>,
-    options: &ResolvedCollatorOptions,
-    left: T,
-    right: U,
-    index: usize,
-) -> Result<Option<Ordering>, AllocError>
-    requires left_reaches { index ≤ length (T.characters left) }
-    requires right_reaches { index ≤ length (U.characters right) }
-    requires unshifted { is_shifted options.now.alternate_handling ≡ false }
-    requires inexact { is_at_least options.now.strength Identical ≡ false }
-    requires same { HaveSamePrimaries (source_collation checked.now) options.now (drop index (T.characters left)) (drop index (U.characters right)) }
-    ensures { IfOk result (λ answer. IfSome answer (λ order.
-        order ≡ collation_order (source_collation checked.now) options.now (drop index (T.characters left)) (drop index (U.characters right)))) }
-{
-    let numeric = numeric_lead(checked, options);
-    let mut lefts = FlatElements::<KEPT>::new();
-    let mut rights = FlatElements::<KEPT>::new();
-    if !read_kept(alloc, checked, numeric, left, index, &mut lefts)? {
-        return Ok(None);
-    }
-    if !read_kept(alloc, checked, numeric, right, index, &mut rights)? {
-        return Ok(None);
-    }
-    let left = ReadText {
-        elements: lefts.as_slice(),
-        variable_end: 0,
-        characters: &[],
-    };
-    let right = ReadText {
-        elements: rights.as_slice(),
-        variable_end: 0,
-        characters: &[],
-    };
-    let order = compare_behind_primaries(alloc, checked, options, left, right)?;
-    Ok(Some(order))
-}
-
-/// The same at each strength: `None` at `Identical`. Fails only if memory is refused.
-#[inline(never)]
-fn compare_same<T: Characters, U: Characters>(
     alloc: Global,
     checked: &CheckedTables<'_>,
     options: &ResolvedCollatorOptions,
@@ -110,8 +43,27 @@ fn compare_same<T: Characters, U: Characters>(
     if options.strength.is_at_least(Strength::Identical) {
         return Ok(None);
     }
-    let answer = compare_kept(alloc, checked, options, left, right, index)?;
-    Ok(answer)
+    let numeric = numeric_lead(checked, options);
+    let mut lefts = FlatElements::<KEPT>::new();
+    let mut rights = FlatElements::<KEPT>::new();
+    if !read_elements(alloc, checked, numeric, left, index, &mut lefts)? {
+        return Ok(None);
+    }
+    if !read_elements(alloc, checked, numeric, right, index, &mut rights)? {
+        return Ok(None);
+    }
+    let left = ReadText {
+        elements: lefts.as_slice(),
+        variable_end: 0,
+        characters: &[],
+    };
+    let right = ReadText {
+        elements: rights.as_slice(),
+        variable_end: 0,
+        characters: &[],
+    };
+    let order = compare_behind_primaries(alloc, checked, options, left, right)?;
+    Ok(Some(order))
 }
 
 /// The order of what stands in two texts after so many characters, if both are read flat up to primaries that count and differ, where
@@ -166,7 +118,7 @@ pub(super) fn compare_flat<T: Characters, U: Characters>(
         ByPrimaries::Decided(order) => Ok(Some(order)),
         ByPrimaries::NotFlat => Ok(None),
         ByPrimaries::Same => {
-            let answer = compare_same(alloc, checked, options, left, right, index)?;
+            let answer = compare_kept(alloc, checked, options, left, right, index)?;
             Ok(answer)
         }
     }
@@ -197,7 +149,7 @@ pub(super) fn compare_ahead<T: Characters, U: Characters>(
             if !is_unshifted(options) {
                 return Ok(None);
             }
-            let answer = compare_same(alloc, checked, options, left, right, 0)?;
+            let answer = compare_kept(alloc, checked, options, left, right, 0)?;
             Ok(answer)
         }
     }

@@ -9,7 +9,6 @@ ghost use Rattle.std.specs.List.{list_all};
 ghost use Rattle.icu_normalizer_core.specs.Canonical.{decomposed};
 ghost use Rattle.icu_collator_types.specs.declared.elements.Element.{Element};
 ghost use Rattle.icu_collator_core.specs.ElementLists.{unpacked};
-ghost use Rattle.icu_collator_core.specs.ElementTexts.{text_elements};
 ghost use Rattle.icu_collator.specs.Collators.{source_collation};
 ghost use Rattle.icu_collator.specs.KeyBytes.{key_bytes, key_of_text};
 ghost use Rattle.icu_collator.specs.LevelLists.{counted_list, has_sound_case, variable_end_of};
@@ -21,7 +20,7 @@ use super::buffer::KeyBytes;
 use super::whole::write_whole_key;
 use crate::encodings::Characters;
 use crate::levels::counted_elements::{do_all_count, kept, variable_end};
-use crate::read_texts::{numeric_lead, read_text};
+use crate::read_texts::{numeric_lead, read_elements, read_text};
 use crate::sinks::whole::write_key;
 use crate::sinks::{CollationKeySink, KeyError};
 use icu_collator_core::checked::CheckedTables;
@@ -130,46 +129,25 @@ fn write_kept_key<T: Characters>(
     Ok(())
 }
 
-/// Reads the elements of a text into an empty list, flat or by stretches; `false` where it can't be read so, or the list has no
-/// room, and then what the list has is not said. Fails only if memory is refused.
-#[inline(always)]
-fn read_elements<T: Characters, const N: usize>(
-    alloc: Global,
-    checked: &CheckedTables<'_>,
-    numeric: Option<u8>,
-    text: T,
-    elements: &mut FlatElements<N>,
-) -> Result<bool, AllocError>
-    requires { elements.old.items ≡ [] }
-    ensures elements { IfOk result (λ is_read. is_read ≡ true → unpacked elements.new.items ≡ text_elements checked.now numeric (T.characters text)) }
-    ensures scalars { All IsScalar (T.characters text) }
-{
-    if checked.read_flat(numeric, text.chars(), elements) {
-        return Ok(true);
-    }
-    let is_read = checked.read_stretches(alloc, numeric, text.chars(), elements)?;
-    Ok(is_read)
-}
-
-/// Appends the key of a text that is read flat or by stretches, into an empty list with room for it, to no byte; `false` for another
-/// text, and then nothing. Fails only if memory is refused.
-#[inline(always)]
+/// Appends the key of a text that is read flat or by stretches, with room for so many elements, to no byte; `false` for another text,
+/// and then nothing. Fails only if memory is refused. It stays a function of its own: at its beginning one clears all arrays that it
+/// has.
+#[inline(never)]
 fn write_noted_key<T: Characters, const N: usize>(
     alloc: Global,
     checked: &CheckedTables<'_>,
     options: &ResolvedCollatorOptions,
     text: T,
-    read: &mut FlatElements<N>,
     key: &mut KeyBytes,
 ) -> Result<bool, AllocError>
-    requires unread { read.old.items ≡ [] }
-    requires empty { key.old.items ≡ [] }
+    requires { key.old.items ≡ [] }
     ensures written { IfOk result (λ is_written. is_written ≡ true
         → key.new.items ≡ key_of_text (source_collation checked.now) options.now (T.characters text)) }
     ensures unwritten { IfOk result (λ is_written. is_written ≡ false → key.new.items ≡ []) }
 {
+    let mut read = FlatElements::<N>::new();
     let numeric = numeric_lead(checked, options);
-    let is_read = read_elements(alloc, checked, numeric, text, read)?;
+    let is_read = read_elements(alloc, checked, numeric, text, 0, &mut read)?;
     if !is_read {
         return Ok(false);
     }
@@ -181,63 +159,6 @@ fn write_noted_key<T: Characters, const N: usize>(
     }
     write_kept_key(alloc, checked, options, elements, end, text, key)?;
     Ok(true)
-}
-
-/// The same with room for few elements, in a function of its own: at its beginning one clears all arrays that it has.
-#[inline(never)]
-fn write_short_key<T: Characters>(
-    alloc: Global,
-    checked: &CheckedTables<'_>,
-    options: &ResolvedCollatorOptions,
-    text: T,
-    key: &mut KeyBytes,
-) -> Result<bool, AllocError>
-    requires { key.old.items ≡ [] }
-    ensures written { IfOk result (λ is_written. is_written ≡ true
-        → key.new.items ≡ key_of_text (source_collation checked.now) options.now (T.characters text)) }
-    ensures unwritten { IfOk result (λ is_written. is_written ≡ false → key.new.items ≡ []) }
-{
-    let mut read = FlatElements::<FEW_ELEMENTS>::new();
-    let is_written = write_noted_key(alloc, checked, options, text, &mut read, key)?;
-    Ok(is_written)
-}
-
-/// The same with room for more.
-#[inline(never)]
-fn write_middle_key<T: Characters>(
-    alloc: Global,
-    checked: &CheckedTables<'_>,
-    options: &ResolvedCollatorOptions,
-    text: T,
-    key: &mut KeyBytes,
-) -> Result<bool, AllocError>
-    requires { key.old.items ≡ [] }
-    ensures written { IfOk result (λ is_written. is_written ≡ true
-        → key.new.items ≡ key_of_text (source_collation checked.now) options.now (T.characters text)) }
-    ensures unwritten { IfOk result (λ is_written. is_written ≡ false → key.new.items ≡ []) }
-{
-    let mut read = FlatElements::<SOME_ELEMENTS>::new();
-    let is_written = write_noted_key(alloc, checked, options, text, &mut read, key)?;
-    Ok(is_written)
-}
-
-/// The same with room for many.
-#[inline(never)]
-fn write_long_key<T: Characters>(
-    alloc: Global,
-    checked: &CheckedTables<'_>,
-    options: &ResolvedCollatorOptions,
-    text: T,
-    key: &mut KeyBytes,
-) -> Result<bool, AllocError>
-    requires { key.old.items ≡ [] }
-    ensures written { IfOk result (λ is_written. is_written ≡ true
-        → key.new.items ≡ key_of_text (source_collation checked.now) options.now (T.characters text)) }
-    ensures unwritten { IfOk result (λ is_written. is_written ≡ false → key.new.items ≡ []) }
-{
-    let mut read = FlatElements::<MANY_ELEMENTS>::new();
-    let is_written = write_noted_key(alloc, checked, options, text, &mut read, key)?;
-    Ok(is_written)
 }
 
 /// The same with as much room as the text wants.
@@ -254,11 +175,11 @@ fn write_read_key<T: Characters>(
     ensures unwritten { IfOk result (λ is_written. is_written ≡ false → key.new.items ≡ []) }
 {
     let is_written = if text.size() <= SHORT {
-        write_short_key(alloc, checked, options, text, key)?
+        write_noted_key::<T, FEW_ELEMENTS>(alloc, checked, options, text, key)?
     } else if text.size() <= MIDDLE {
-        write_middle_key(alloc, checked, options, text, key)?
+        write_noted_key::<T, SOME_ELEMENTS>(alloc, checked, options, text, key)?
     } else {
-        write_long_key(alloc, checked, options, text, key)?
+        write_noted_key::<T, MANY_ELEMENTS>(alloc, checked, options, text, key)?
     };
     Ok(is_written)
 }

@@ -10,10 +10,11 @@ use Rattle.icu_collator_core.specs.Boundaries.{is_accent}
 use Rattle.icu_collator_core.specs.Defaults.{special_primary}
 use Rattle.icu_collator_core.specs.ElementLists.{unpacked}
 use Rattle.icu_collator_core.specs.Elements.{elements_of_list}
-use Rattle.icu_collator_core.specs.FlatNotes.{AreReadFlat, IsBoundaryApart, IsFlat, IsFlatNote, IsFlatUpTo, IsReadFlat, IsSteady, IsUncounted, MayBegin, MayFollow, StandInOrder, note_by}
+use Rattle.icu_collator_core.specs.FlatNotes.{AreReadFlat, IsBoundaryApart, IsBoundaryNote, IsFlat, IsFlatNote, IsFlatUpTo, IsReadFlat, IsSteady, IsUncounted, MayBegin, MayFollow, StandInOrder, note_by}
 use Rattle.icu_collator_core.specs.declared.notes.flat_note.FlatNote.TheVariants.{One, Other, Two}
+use Rattle.icu_collator_core.specs.PlainCharacters.{IsOwnBeginning}
 use Rattle.icu_collator_core.specs.PlainWords.{IsReadAlone, IsReadUncounted}
-use Rattle.icu_collator_core.specs.ReadSources.{canonical_by, weights_by}
+use Rattle.icu_collator_core.specs.ReadSources.{IsAloneAnywhere, canonical_by, weights_by}
 use Rattle.icu_collator_core.specs.TableMeaning.{weights_of}
 use Rattle.icu_collator_core.specs.TableSettings.{has_bit}
 use Rattle.icu_collator_core.specs.UnsafeCharacters.{IsUnsafeItself}
@@ -147,6 +148,22 @@ module _ (source : CollationSource) (c : ℕ) where
         last = λ small. boundary.0.starter;
         alone = λ small. all;
         read = flat_before source numeric (first ∷ []) (bits ∷ []) 0 all;
+      }
+
+  -- a plain character before which no dot above is dropped
+  pub boundary_noted : (bits : ℕ) → scalar c ≡ true → is_accent c ≡ false
+      → IsOwnBeginning (canonical_by source) (weights_of (canonical_by source) source.tables) c → IsAloneAnywhere source c bits → IsBoundaryNote source c bits
+  boundary_noted bits character unaccented own alone =
+      let dotted = has_bit 6 source.tables.metadata.bits in
+      let kept : (is_some (special_primary c) || (dotted && (c == 0x307))) ≡ false =
+      ap (λ (o : Option ℕ). is_some o || (dotted && (c == 0x307))) alone.ordinary ∙ and_right dotted (c == 0x307) alone.undotted in
+      let apart = boundary_apart source c (λ itself. own.safe (inl itself)) unaccented in
+      record {
+        plain = record { alone = alone; beginning = own };
+        unaccented = unaccented;
+        flat = λ numeric before.
+            let read = alone_flat source c bits character kept alone.alone numeric in
+            boundary_flat numeric c bits (boundary_begins source c apart numeric 256 read.uncounted) own.own read before;
       }
 
   -- characters that begin with a boundary, by what they are by themselves

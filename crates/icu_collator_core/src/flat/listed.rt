@@ -20,11 +20,7 @@ impl CheckedTables<'_> {
     ) -> Option<u16>
         ensures { IfSome result (λ trail. IsPushed self.now numeric c before elements.old.items trail elements.new.items) }
     {
-        if let Some(note) = self.flat_note(c) {
-            let trail = note.push(numeric, before, elements)?;
-            return Some(trail);
-        }
-        if let Some(note) = self.paged_note(c) {
+        if let Some(note) = self.note(c) {
             let trail = note.push(numeric, before, elements)?;
             return Some(trail);
         }

@@ -1,19 +1,17 @@
 //! Flat reading, one primary after another.
 
-ghost use Rattle.std.specs.Prelude.{◌≡◌, ◌≤◌, ◌==◌, ◌∷◌, ℕ, false, true, List, [], IfSome, Option};
+ghost use Rattle.std.specs.Prelude.{◌≡◌, ◌≤◌, ◌==◌, ℕ, false, true, List, IfSome, Option};
 ghost use Rattle.icu_normalizer_core.specs.Canonical.{IsDecomposing};
 ghost use Rattle.icu_collator_core.specs.Acceptance.{CollationSource};
-ghost use Rattle.icu_collator_core.specs.FlatNotes.{IsFlat, IsFlatNote};
+ghost use Rattle.icu_collator_core.specs.FlatNotes.{IsFlatNote};
 ghost use Rattle.icu_collator_core.specs.FlatSteps.{IsFollowed, IsNextPrimary, IsSettled, StepsTo};
 ghost use Rattle.icu_collator_core.specs.Pools.{element_of};
 ghost use Rattle.icu_collator_core.specs.ReadSources.{canonical_by};
-ghost use Rattle.icu_collator_core.specs.declared.notes.flat_note.FlatNote.TheVariants.{Boundary};
 ghost use Rattle.icu_collator_core.specs.declared.flat.steps.FlatStep.TheVariants.{Primary};
 
 use crate::checked::CheckedTables;
 use crate::notes::flat_note::{BEFORE_BOUNDARY, FlatNote};
 use crate::notes::pages::unpaged_note;
-use crate::sound::is_own_list;
 use icu_collator_types::elements::CollationElement;
 
 /// The note of a starter: it may stand after any class, which is at most this.
@@ -122,17 +120,6 @@ impl FlatNote {
 }
 
 impl FlatNote {
-    /// The element of a boundary of one element, whatever stands beside it; `None` for another character.
-    #[inline(always)]
-    fn boundary_element(&self) -> Option<CollationElement>
-        ensures { IfSome result (λ bits. self.now ≡ Boundary bits) }
-    {
-        match *self {
-            FlatNote::Boundary(element) => Some(element),
-            _ => None,
-        }
-    }
-
     /// Whether no reading may begin at the character, or a boundary has to follow, as far as is noted.
     #[inline(always)]
     fn is_dependent(&self) -> bool {
@@ -148,21 +135,6 @@ impl FlatNote {
 }
 
 impl CheckedTables<'_> {
-    /// The element of a boundary of one element that is its own full list (UAX 15) and read flat after any character, be numbers
-    /// read or not; `None` for another, for some that are so, and for all below U+0800. It takes few reads and no memory.
-    #[inline(always)]
-    pub fn boundary_element(&self, c: char) -> Option<CollationElement>
-        ensures own { IfSome result (λ bits. (canonical_by self.now).full c ≡ c ∷ []) }
-        ensures flat { IfSome result (λ bits. (numeric : Option ℕ) (before : ℕ) → IsFlat self.now numeric c before (bits ∷ []) 0) }
-    {
-        let note = self.paged_note(c)?;
-        let element = note.boundary_element()?;
-        if !is_own_list(self.canonical(), c) {
-            return None;
-        }
-        Some(element)
-    }
-
     /// Whether a page notes a character that depends on what stands beside it: no reading may begin at it, or a boundary has to
     /// follow. `false` for others, and for some that do. It takes two reads and no memory.
     #[inline(always)]

@@ -1,14 +1,15 @@
 //! Notes of characters that are read as they are by themselves wherever a boundary follows, as those that begin a contraction.
 
-ghost use Rattle.std.specs.Prelude.{◌≡◌, ◌∷◌, ℕ, [], false, true, IfOk, None, Option, is_some};
+ghost use Rattle.std.specs.Prelude.{◌≡◌, ◌∷◌, ℕ, [], false, true, IfOk, IfSome, None, Option, is_some};
 ghost use lib.Utf8.{scalars};
 ghost use Rattle.icu_collator_core.specs.Boundaries.{is_accent};
-ghost use Rattle.icu_collator_core.specs.FlatNotes.{IsBoundaryApart, IsFlatNote, IsNoteOf, IsSteady, IsUncounted, note_by};
+ghost use Rattle.icu_collator_core.specs.FlatNotes.{IsBoundaryApart, IsBoundaryNote, IsFlatNote, IsNoteOf, IsSteady, IsUncounted, note_by};
 ghost use Rattle.icu_collator_core.specs.ReadSources.{canonical_by};
 
 use super::flat_note::{BEFORE_BOUNDARY, FlatNote};
 use crate::reading::checked_words::checked_word;
 use crate::reading::lists::list_elements;
+use crate::reading::next::find_alone;
 use crate::sound::SoundTables;
 use icu_collator_types::elements::CollationElement;
 use smallvec::SmallVec;
@@ -29,6 +30,17 @@ pub(super) fn is_boundary(sound: &SoundTables<'_>, c: char) -> bool
         return false;
     }
     !sound.is_unsafe_itself(c)
+}
+
+/// The element of a boundary that is its own full list, if nothing that stands before or after it changes it.
+pub(super) fn boundary_element(sound: &SoundTables<'_>, c: char) -> Option<CollationElement>
+    ensures { IfSome result (λ bits. IsBoundaryNote sound.now c bits) }
+{
+    if is_accent(c) || !sound.find_own_beginning(c) {
+        return None;
+    }
+    let element = find_alone(sound, c)?;
+    Some(element)
 }
 
 /// Whether a character of a decomposed list is no digit, and no prefix is recorded with it.

@@ -2,7 +2,7 @@
 
 ghost use Rattle.std.specs.Prelude.{◌≡◌, ◌&&◌, ℕ, true, IfSome, Option, None};
 ghost use Rattle.icu_collator_core.specs.Acceptance.{CollationSource};
-ghost use Rattle.icu_collator_core.specs.FlatNotes.{BeginsApart, IsFlatNote, IsPushed};
+ghost use Rattle.icu_collator_core.specs.FlatNotes.{BeginsApart, IsBoundaryNote, IsFlatNote, IsPushed};
 
 use super::flat_elements::FlatElements;
 use icu_collator_types::elements::CollationElement;
@@ -17,7 +17,7 @@ pub(crate) const BEFORE_BOUNDARY: u16 = 256;
 pub(crate) enum FlatNote {
     /// Nothing: it isn't read so.
     Other,
-    /// There is one element, whatever stands beside the character, and it is a boundary.
+    /// There is one element, whatever stands beside the character, which is a boundary and its own full list.
     Boundary(CollationElement),
     /// There is one element.
     One(CollationElement, u16, u16),
@@ -47,6 +47,17 @@ impl FlatNote {
             return None;
         }
         self.push_other(numeric, before, elements)
+    }
+
+    /// The element of a boundary that is its own full list, whatever stands beside it; `None` for another character.
+    #[inline(always)]
+    pub(crate) fn boundary_element(&self) -> Option<CollationElement>
+        ensures { IfSome result (λ bits. (source : CollationSource) (c : ℕ) → IsFlatNote source c self.now → IsBoundaryNote source c bits) }
+    {
+        match *self {
+            FlatNote::Boundary(element) => Some(element),
+            _ => None,
+        }
     }
 
     /// Whether the full list of the character begins with a boundary, as far as is noted; of a digit nothing is.

@@ -6,7 +6,7 @@ ghost use Rattle.icu_collator_core.specs.FlatNotes.{AreFlatNotes, IsFlatNote, Is
 ghost use Rattle.icu_collator_core.specs.ReadSources.{canonical_by};
 ghost use Rattle.icu_collator_core.specs.TableSettings.{has_bit};
 
-use super::boundaries::{is_boundary, note_before_boundary};
+use super::boundaries::{boundary_element, is_boundary, note_before_boundary};
 use super::flat_note::{BEFORE_BOUNDARY, FlatNote};
 use crate::reading::checked_words::checked_word;
 use crate::sound::SoundTables;
@@ -87,13 +87,7 @@ pub(super) fn own_note(sound: &SoundTables<'_>, first: char, class: u8) -> FlatN
     let lead = highest_before(sound, first);
     let class = class as u16;
     match flat_element(sound, first) {
-        Some(element) => {
-            if lead == BEFORE_BOUNDARY {
-                FlatNote::Boundary(element)
-            } else {
-                FlatNote::One(element, lead, class)
-            }
-        }
+        Some(element) => FlatNote::One(element, lead, class),
         None => match flat_digit(sound, first) {
             Some(element) => FlatNote::Digit(element, lead, class),
             None => FlatNote::Other,
@@ -119,7 +113,7 @@ fn note_of_two(sound: &SoundTables<'_>, first: char, second: char) -> FlatNote
     FlatNote::Two(element, next, highest_before(sound, first), trail as u16)
 }
 
-/// What is to be noted of a character.
+/// What is to be noted of a character, by its full list.
 pub(crate) fn note_of(sound: &SoundTables<'_>, c: char) -> FlatNote
     ensures { IsFlatNote sound.now c result }
 {
@@ -136,11 +130,14 @@ pub(crate) fn note_of(sound: &SoundTables<'_>, c: char) -> FlatNote
     note_of_two(sound, first, second)
 }
 
-/// What is to be noted of a character, also of one that is read so only where a boundary follows. Fails only if memory is
-/// refused.
+/// What is to be noted of a character: a boundary by itself, another by its full list, also where it is read so only if a
+/// boundary follows. Fails only if memory is refused.
 fn whole_note(alloc: Global, sound: &SoundTables<'_>, c: char) -> Result<FlatNote, AllocError>
     ensures { IfOk result (λ note. IsFlatNote sound.now c note) }
 {
+    if let Some(element) = boundary_element(sound, c) {
+        return Ok(FlatNote::Boundary(element));
+    }
     let note = note_of(sound, c);
     match note {
         FlatNote::Other => note_before_boundary(alloc, sound, c),

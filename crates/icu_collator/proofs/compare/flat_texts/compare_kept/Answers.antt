@@ -7,10 +7,10 @@ pub returns : goal.returns
 returns g c =
     let a = drop c.args.index (g.T.Characters.characters c.args.left) in
     let b = drop c.args.index (g.U.Characters.characters c.args.right) in
-    let left_read : c.in_ok-read_kept.field-0 ≡ true = search rules in
-    let right_read : c.in_ok-read_kept-2.field-0 ≡ true = search rules in
-    let lefts = ap unpacked c.as_slice.ensures ∙ c.in_ok-read_kept.ensures left_read in
-    let rights = ap unpacked c.as_slice-2.ensures ∙ c.in_ok-read_kept-2.ensures right_read in
+    let left_read : c.in_ok-read_elements.field-0 ≡ true = search rules in
+    let right_read : c.in_ok-read_elements-2.field-0 ≡ true = search rules in
+    let lefts = ap unpacked c.as_slice.ensures ∙ c.in_ok-read_elements.ensures.elements left_read in
+    let rights = ap unpacked c.as_slice-2.ensures ∙ c.in_ok-read_elements-2.ensures.elements right_read in
     c.in_ok-order.ensures
-    ∙ same_primaries c.args.checked.now c.numeric_lead-numeric.result c.args.options.now c.requires.unshifted c.numeric_lead-numeric.ensures c.requires.inexact a b _ _ refl refl
+    ∙ same_primaries c.args.checked.now c.numeric_lead-numeric.result c.args.options.now c.requires.unshifted c.numeric_lead-numeric.ensures inexact a b _ _ refl refl
     lefts rights c.requires.same

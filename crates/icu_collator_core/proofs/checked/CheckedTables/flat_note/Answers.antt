@@ -12,4 +12,4 @@ returns-in-Some c =
     let is : note ≡ get_or c.deref.result.now c.args.c Other = c.in-Some.ensures.lookup.4 (omega arith) Other in
     subst (λ (source : CollationSource). IsFlatNote source c.args.c note) c.self.view_is
     (subst (λ (n : FlatNote). IsFlatNote source c.args.c n) (sym (is ∙ ap (λ (notes : List FlatNote). get_or notes c.args.c Other) c.deref.ensures.value))
-    (c.self.invariant.1 c.args.c))
+    (c.self.invariant.0 c.args.c))

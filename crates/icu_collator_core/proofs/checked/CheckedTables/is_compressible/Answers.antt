@@ -7,4 +7,4 @@ pub returns : goal.returns
 returns c =
     let lead = c.args.lead in
     subst (λ (source : CollationSource). c.is_compressible_by.result ≡ is_compressible_in source.tables.special_primaries.last_primaries lead) c.self.view_is
-    (c.is_compressible_by.ensures ∙ c.self.invariant.4 lead (omega arith))
+    (c.is_compressible_by.ensures ∙ c.self.invariant.3 lead (omega arith))

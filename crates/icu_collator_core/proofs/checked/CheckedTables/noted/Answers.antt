@@ -8,4 +8,4 @@ invariant_of-result c =
     let compressible = c.compressible_leads-compressible.result in
     let leads =
     subst (λ (tables : CollationTables). AreCompressibleLeads tables.special_primaries.last_primaries compressible) c.tables.ensures c.compressible_leads-compressible.ensures in
-    (c.in_ok-low.ensures, c.in_ok-flat.ensures, c.in_ok-pages.ensures, c.in_ok-pairs.ensures, leads)
+    (c.in_ok-low.ensures, c.in_ok-pages.ensures, c.in_ok-pairs.ensures, leads)

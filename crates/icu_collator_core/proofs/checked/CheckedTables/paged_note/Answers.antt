@@ -18,4 +18,4 @@ returns c =
     subst (λ (source : CollationSource). IsFlatNote source code note) c.self.view_is
     (subst (λ (n : FlatNote). IsFlatNote source code n) (sym (c.in_ok-note.ensures ∙ ap (λ (p : List FlatNote). get_or p (code % 64) Other) page_is))
     (subst (λ (d : ℕ). IsFlatNote source d (get_or (get_or pages (code / 64) []) (code % 64) Other)) (div-add-mod' code 64)
-    (c.self.invariant.2 (code / 64) (code % 64))))
+    (c.self.invariant.1 (code / 64) (code % 64))))

@@ -8,4 +8,4 @@ returns c =
     let source : CollationSource = c.self.inside.sound in
     let pair = c.in_ok-pair.pair.now in
     subst (λ (source : CollationSource). IsPair source c.args.first c.args.second (noted_elements pair) pair.trail) c.self.view_is
-    (c.in_ok-pair.ensures source c.self.invariant.3)
+    (c.in_ok-pair.ensures source c.self.invariant.2)

@@ -3,7 +3,7 @@ use Rattle.std.proofs.lemmas.List.{length_push}
 use Rattle.icu_collator_core.specs.FlatNotes.{AreFlatNotes, IsFlatNote}
 use Rattle.icu_collator_core.specs.declared.notes.flat_note.FlatNote.{FlatNote}
 use Rattle.icu_collator_core.specs.declared.notes.flat_note.FlatNote.TheVariants.{Other}
-use Rattle.icu_collator_core.proofs.readings.CollationNoteLemmas.{noted_more}
+use Rattle.icu_collator_core.proofs.readings.NoteListLemmas.{noted_more}
 use Rattle.icu_collator_core.proofs.notes.flat_notes.flat_notes.Goals as goal
 
 pub loop-code-init : goal.loop-code-init

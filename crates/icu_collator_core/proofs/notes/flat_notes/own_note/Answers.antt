@@ -1,18 +1,10 @@
-use Rattle.std.proofs.Common.{◌≡◌, ℕ, [], ◌∷◌, None, arith, subst}
+use Rattle.std.proofs.Common.{◌≡◌, ℕ, [], ◌∷◌, None, subst}
 use Rattle.icu_collator_core.specs.FlatNotes.{IsFlatUpTo}
-use Rattle.icu_collator_core.proofs.readings.FlatNoteLemmas.{boundary_flat, one_flat}
+use Rattle.icu_collator_core.proofs.readings.FlatNoteLemmas.{one_flat}
 use Rattle.icu_collator_core.proofs.notes.flat_notes.own_note.Goals as goal
 
-pub returns-then-lead-eq-BEFORE_BOUNDARY : goal.returns-then-lead-eq-BEFORE_BOUNDARY
-returns-then-lead-eq-BEFORE_BOUNDARY c = λ d is numeric before.
-    let source = c.args.sound.now in
-    let first = c.args.first in
-    let alone = c.in-Some.ensures numeric in
-    let may = c.highest_before-lead.ensures numeric 256 (omega arith) alone.uncounted in
-    boundary_flat source d numeric first c.in-Some.element may is alone before
-
-pub returns-else-lead-eq-BEFORE_BOUNDARY : goal.returns-else-lead-eq-BEFORE_BOUNDARY
-returns-else-lead-eq-BEFORE_BOUNDARY c = λ d is numeric.
+pub returns-in-Some : goal.returns-in-Some
+returns-in-Some c = λ d is numeric.
     let source = c.args.sound.now in
     let lead = c.highest_before-lead.result in
     subst (λ (k : ℕ). IsFlatUpTo source numeric d (c.in-Some.element ∷ []) lead k) c.requires

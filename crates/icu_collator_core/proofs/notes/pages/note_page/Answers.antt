@@ -4,7 +4,7 @@ use Rattle.icu_collator_core.specs.FlatNotes.{IsFlatNote}
 use Rattle.icu_collator_core.specs.NotePages.{IsNotePage}
 use Rattle.icu_collator_core.specs.declared.notes.flat_note.FlatNote.{FlatNote}
 use Rattle.icu_collator_core.specs.declared.notes.flat_note.FlatNote.TheVariants.{Other}
-use Rattle.icu_collator_core.proofs.readings.CollationNoteLemmas.{noted_more}
+use Rattle.icu_collator_core.proofs.readings.NoteListLemmas.{noted_more}
 use Rattle.icu_collator_core.proofs.notes.pages.note_page.Goals as goal
 
 pub loop-index-init : goal.loop-index-init

@@ -2,7 +2,7 @@ use Rattle.std.proofs.Common.{◌+◌, List, [], length, ap, sym, subst, ◌∙�
 use Rattle.std.proofs.lemmas.List.{length_push}
 use Rattle.icu_collator_core.specs.NotePages.{AreNotePages, IsNotePage}
 use Rattle.icu_collator_core.specs.declared.notes.flat_note.FlatNote.{FlatNote}
-use Rattle.icu_collator_core.proofs.readings.CollationNoteLemmas.{noted_more}
+use Rattle.icu_collator_core.proofs.readings.NoteListLemmas.{noted_more}
 use Rattle.icu_collator_core.proofs.notes.pages.note_pages.Goals as goal
 
 pub loop-page-init : goal.loop-page-init

@@ -11,5 +11,5 @@ returns-in-Boundary c = λ some source d note numeric before old.
     let element = c.in-Boundary.element in
     let is : (element_of element).primary ≡ c.primary.result = search rules in (
       old ++ element ∷ [],
-      boundary_step source numeric d element before old (old ++ element ∷ []) c.primary.result (noted numeric before) is refl,
+      boundary_step source numeric d element before old (old ++ element ∷ []) c.primary.result (noted.flat numeric before) is refl,
     )

@@ -8,7 +8,7 @@ use Rattle.icu_collator_core.proofs.notes.flat_note.FlatNote.is_boundary.Goals a
 pub returns-in-Boundary : goal.returns-in-Boundary
 returns-in-Boundary c = λ is source numeric d note.
     let noted = subst (λ (n : FlatNote). IsFlatNote source d n) c.in-Boundary.is note in
-    flat_begins source numeric d (c.in-Boundary._element ∷ []) 0 (noted numeric 256)
+    flat_begins source numeric d (c.in-Boundary._element ∷ []) 0 (noted.flat numeric 256)
 
 pub returns-in-One : goal.returns-in-One
 returns-in-One c = λ is source numeric d note.

@@ -9,7 +9,7 @@ pub returns-in-Boundary : goal.returns-in-Boundary
 returns-in-Boundary c = λ source d note.
     let noted = subst (λ (n : FlatNote). IsFlatNote source d n) c.in-Boundary.is note in
     let is : (element_of c.in-Boundary.element).primary ≡ c.primary.result = search rules in
-    one_has source c.args.numeric d c.args.before 0 c.one.result c.in-Boundary.element c.primary.result (noted c.args.numeric c.args.before) is c.one.ensures
+    one_has source c.args.numeric d c.args.before 0 c.one.result c.in-Boundary.element c.primary.result (noted.flat c.args.numeric c.args.before) is c.one.ensures
 
 pub returns-in-One : goal.returns-in-One
 returns-in-One c = λ source d note.

@@ -5,9 +5,9 @@ use Rattle.icu_collator_core.proofs.notes.flat_note.FlatNote.push.Goals as goal
 
 pub returns-then-push : goal.returns-then-push
 returns-then-push g c = λ source x note.
-    let flat = subst (λ (n : FlatNote). IsFlatNote source x n) c.in-Boundary.is note c.args.numeric in
+    let noted = subst (λ (n : FlatNote). IsFlatNote source x n) c.in-Boundary.is note in
     record {
       items = c.in-Boundary.element ∷ [];
-      flat = flat c.args.before;
+      flat = noted.flat c.args.numeric c.args.before;
       appended = c.push.ensures c.if-push.true;
     }

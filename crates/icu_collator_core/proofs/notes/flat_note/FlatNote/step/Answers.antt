@@ -11,7 +11,7 @@ returns-in-Boundary c = λ source d decomposing note old.
     let element = c.in-Boundary.element in
     let is : (element_of element).primary ≡ c.primary.result = search rules in (
       old ++ element ∷ [],
-      boundary_step source c.args.numeric d element c.args.before old (old ++ element ∷ []) c.primary.result (noted c.args.numeric c.args.before) is refl,
+      boundary_step source c.args.numeric d element c.args.before old (old ++ element ∷ []) c.primary.result (noted.flat c.args.numeric c.args.before) is refl,
     )
 
 pub returns-in-One : goal.returns-in-One
