@@ -3,7 +3,7 @@
 //! The array has one of three sizes, each with a copy of the code, in a function of its own: of an ordinary key's 1,800 instructions
 //! 40 clear 64 elements, 240 would take 110, and 512 take 4,100.
 
-ghost use Rattle.std.specs.Prelude.{◌≡◌, [], ◌++◌, All, List, IfErr, IfOk, OnOk, false, true};
+ghost use Rattle.std.specs.Prelude.{◌≡◌, ◌≤◌, [], ◌++◌, All, List, IfErr, IfOk, OnOk, false, true};
 ghost use Rattle.std.specs.Char.{IsScalar};
 ghost use Rattle.std.specs.List.{list_all};
 ghost use Rattle.icu_normalizer_core.specs.Canonical.{decomposed};
@@ -129,9 +129,9 @@ fn write_kept_key<T: Characters>(
     Ok(())
 }
 
-/// Appends the key of a text that is read flat or by stretches, with room for so many elements, to no byte; `false` for another text,
-/// and then nothing. Fails only if memory is refused. It stays a function of its own: at its beginning one clears all arrays that it
-/// has.
+/// Appends the key of a text that is read flat or by stretches, with room for so many elements, to no byte; `false` for another
+/// text, and then nothing. Fails only if memory is refused. For each room it is a function of its own: at its beginning one clears all
+/// arrays that it has.
 #[inline(never)]
 fn write_noted_key<T: Characters, const N: usize>(
     alloc: Global,
@@ -140,7 +140,8 @@ fn write_noted_key<T: Characters, const N: usize>(
     text: T,
     key: &mut KeyBytes,
 ) -> Result<bool, AllocError>
-    requires { key.old.items ≡ [] }
+    requires room { N ≤ 512 }
+    requires empty { key.old.items ≡ [] }
     ensures written { IfOk result (λ is_written. is_written ≡ true
         → key.new.items ≡ key_of_text (source_collation checked.now) options.now (T.characters text)) }
     ensures unwritten { IfOk result (λ is_written. is_written ≡ false → key.new.items ≡ []) }

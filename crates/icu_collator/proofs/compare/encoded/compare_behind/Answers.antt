@@ -19,6 +19,6 @@ pub read_text-requires-clause-can : goal.read_text-requires-clause-can
 read_text-requires-clause-can g c =
     c.behind.ensures.can (g.T.Characters.characters c.args.left) c.chars.ensures.spelled c.requires.left_reaches
 
-pub read_text-2-requires-clause-can : goal.read_text-2-requires-clause-can
-read_text-2-requires-clause-can g c =
+pub read_text-requires-2-clause-can : goal.read_text-requires-2-clause-can
+read_text-requires-2-clause-can g c =
     c.behind-2.ensures.can (g.U.Characters.characters c.args.right) c.chars-2.ensures.spelled c.requires.right_reaches

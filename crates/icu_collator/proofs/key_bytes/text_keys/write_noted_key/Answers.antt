@@ -13,7 +13,7 @@ write_counted_key-requires-clause-elements g c =
     let text = g.T.Characters.characters c.args.text in
     let end = c.variable_end-end.result in
     let whole : c.in_ok-is_read.is_read ≡ true = search rules in
-    let are = listed_elements source options c.numeric_lead-numeric.result text c.read_elements.new.read.items c.numeric_lead-numeric.ensures (c.in_ok-is_read.ensures.elements whole) in
+    let are = listed_elements source options c.numeric_lead-numeric.result text c.read_elements.new.elements.items c.numeric_lead-numeric.ensures (c.in_ok-is_read.ensures.elements whole) in
     c.do_all_count.ensures c.if-do_all_count.true collation options c.variable_end-end.ensures
     ∙ ap (λ items. counted collation options (unpacked items)) c.as_slice-elements.ensures ∙ ap (counted collation options) are
 
@@ -23,4 +23,4 @@ write_kept_key-requires-clause-elements g c =
     let text = g.T.Characters.characters c.args.text in
     let whole : c.in_ok-is_read.is_read ≡ true = search rules in
     ap unpacked c.as_slice-elements.ensures
-    ∙ listed_elements source c.args.options.now c.numeric_lead-numeric.result text c.read_elements.new.read.items c.numeric_lead-numeric.ensures (c.in_ok-is_read.ensures.elements whole)
+    ∙ listed_elements source c.args.options.now c.numeric_lead-numeric.result text c.read_elements.new.elements.items c.numeric_lead-numeric.ensures (c.in_ok-is_read.ensures.elements whole)
