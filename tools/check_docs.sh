@@ -6,6 +6,7 @@
 #   a page that code, a tool or a manual page names and that isn't there
 #   a table of rules in docs/RECORDS.md that isn't docs/rules.tsv, a picture that isn't that of its figures
 #   a word of ./collate or ./sort_names that its manual page leaves out, a version that CHANGELOG.md or README.md lacks
+#   a line on a word in the help of the program sort_names that the script's help doesn't have
 #   a call that docs/PROMISES.md doesn't list with what it asks of callers, or lists otherwise (tools/asked_of_callers.py)
 set -eu
 cd "$(dirname "$(readlink -f "${BASH_SOURCE[0]}")")/.."
@@ -110,6 +111,13 @@ check_words() {
         done < <("./$script" --help | grep -oE '^(collate|    |sort_names) *(--[a-z]+)|, (-h)\b' | grep -oE -e '-?-[a-z]+' | sort -u)
     done
 }
+# What the program sort_names says of its words, the script says of them too.
+check_help() {
+    local line
+    while IFS= read -r line; do
+        grep -qxF -e "$line" sort_names || complain "crates/sort_names/src/help.rt: ./sort_names says otherwise:$line"
+    done < <(grep '^    -' crates/sort_names/src/help.rt | grep -v -e '^    --default-')
+}
 # The limits that ./collate tells of a file are those of the page.
 check_limits() {
     local bytes points lines number
@@ -150,6 +158,7 @@ check_pages_named
 check_rules
 check_pictures
 check_words
+check_help
 check_limits
 check_copies
 check_version
