@@ -130,3 +130,5 @@ ALPHABETS = {
         'Han characters by one range, in the order of their code points, which is that of radicals and strokes but\n'
         'for characters that were added later. Latin letters stand before them.'),
 }
+# The tags of languages whose tailorings tools/language_rows.py puts over the root.
+LANGUAGES = 'am ar-compat be bn cs da de-phonebook el et fa gu he hi hu ka kn mk pa ru sv ta te th tr vi'.split()

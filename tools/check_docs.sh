@@ -127,13 +127,13 @@ check_limits() {
         grep -qF "at most $number" docs/RECORDS.md || complain "docs/RECORDS.md: not at most $number, as tools/launcher.sh has it"
     done
 }
-# The records files that the gate runs are those of records/. The root of crates/tests_languages is lines of the root alone.
+# The records files that the gate runs are those of records/. The root of its languages is lines of the root alone.
 check_copies() {
-    local file root=crates/tests_languages/data/root.records
+    local file root=crates/examples_alphabets/data/languages/root.records
     for file in crates/examples_alphabets/data/*.records crates/collate_unicode/data/*.records; do
         cmp -s "$file" "records/${file##*/}" || complain "$file: not the file of records/"
     done
-    for file in crates/tests_languages/data/*.records; do
+    for file in crates/examples_alphabets/data/languages/*.records; do
         [ "$file" = "$root" ] || cmp -s "$file" "records/languages/${file##*/}" ||
             complain "$file: not the file of records/languages/"
     done

@@ -1,13 +1,13 @@
 #!/usr/bin/python3
-"""Writes the run of crates/tests_languages: names in 25 languages of 15 scripts, in the order of ICU4C's collators.
+"""Writes the languages of crates/examples_alphabets: names in 25 of 15 scripts, in the order of ICU4C's collators.
 
-  language_rows.py [--check] [FOLDER]     FOLDER is crates/tests_languages; --check compares what would be written
+  language_rows.py [--check] [FOLDER]     FOLDER is data/languages of the crate; --check compares what would be written
 
 Of each language it takes 40 names of countries, languages and currencies in it (Debian's iso-codes), those with a text of its
 tailoring first; no two are equal, and ICU4C's own collator of the language and the rules of CLDR 41 have to order them alike
-(python3-icu). `stdin` has the names, far from their order, `stdout` ICU4C's order, and `data` the tailorings, as
-records/languages has them, and the lines of the root that are about their characters. What lacks or differs is told, and the
-status is 2; nothing is written then.
+(python3-icu). TAG.names has the names, far from their order, TAG.sorted ICU4C's order, TAG.records the tailoring, as
+records/languages has it, and root.records the lines of the root that are about their characters. tools/sort_alphabets.py
+writes then what the crate is run on. What lacks or differs is told, and the status is 2; nothing is written then.
 """
 import os
 import random
@@ -17,12 +17,12 @@ import unicodedata
 import icu
 
 import compare_languages
+from alphabets import LANGUAGES
 from join_records import ROOT as ROOT_RECORDS
 from make_language import FOLDER, all_names, tag_of
 from root_data import Characters, Fault, lines_of, run
 
-PLACE = os.path.join(os.path.dirname(os.path.dirname(os.path.realpath(__file__))), 'crates/tests_languages')
-TAGS = ('am ar-compat be bn cs da de-phonebook el et fa ' 'gu he hi hu ka kn mk pa ru sv ta te th tr vi').split()
+PLACE = os.path.join(os.path.dirname(os.path.dirname(os.path.realpath(__file__))), 'crates/examples_alphabets/data/languages')
 COUNT = 40
 
 
@@ -54,20 +54,21 @@ def names_of(tag, name, kind):
 def made():
     """What is written, by path."""
     known = {tag_of(*name): name for name in all_names()}
-    orders = {tag: names_of(tag, *known[tag]) for tag in TAGS}
+    orders = {tag: names_of(tag, *known[tag]) for tag in LANGUAGES}
     files = {}
     texts = [text for names in orders.values() for text in names]
-    for tag in TAGS:
+    for tag in LANGUAGES:
         path = os.path.join(FOLDER, f'{tag}.records')
         texts += [*compare_languages.said_in(path, 't '), *compare_languages.said_in(path, '# without ')]
-        files[f'data/{tag}.records'] = '\n'.join(line for _, line in lines_of(path))
+        files[f'{tag}.records'] = '\n'.join(line for _, line in lines_of(path))
     root = [line for _, line in lines_of(ROOT_RECORDS)]
     head = root[:root.index('')] if '' in root else []
     licence = [line for line in head if not line.startswith('# lead')]
-    files['data/root.records'] = '\n'.join([*licence, *compare_languages.cut(root, texts, Characters()), ''])
+    files['root.records'] = '\n'.join([*licence, *compare_languages.cut(root, texts, Characters()), ''])
     source = random.Random(len(texts))
-    files['stdin'] = '\n'.join('\n'.join([tag, *source.sample(orders[tag], COUNT), '']) for tag in TAGS)
-    files['stdout'] = '\n'.join('\n'.join([tag, *orders[tag], '']) for tag in TAGS)
+    for tag in LANGUAGES:
+        files[f'{tag}.names'] = '\n'.join([*source.sample(orders[tag], COUNT), ''])
+        files[f'{tag}.sorted'] = '\n'.join([*orders[tag], ''])
     return files
 
 

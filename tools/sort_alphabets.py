@@ -5,7 +5,8 @@
   sort_alphabets.py --check    says where those that stand there are others
 
 LANGUAGE.sorted has the names of LANGUAGE.names in the order of ICU4C's collator for the language (Debian's python3-icu), equal
-ones as they stood; LANGUAGE.records is the file of the same name in `records`, which tools/make_records.py writes.
+ones as they stood; LANGUAGE.records is the file of the same name in `records`, which tools/make_records.py writes. Those of
+data/languages are tools/language_rows.py's.
 """
 import os
 import sys
@@ -15,7 +16,7 @@ try:
 except ImportError as error:
     sys.exit(f'{os.path.basename(sys.argv[0])}: {error} (Debian has it in the package python3-icu)')
 
-from alphabets import ALPHABETS
+from alphabets import ALPHABETS, LANGUAGES
 
 ROOT = os.path.dirname(os.path.dirname(os.path.realpath(__file__)))
 FOLDER = os.path.join(ROOT, 'crates/examples_alphabets')
@@ -42,6 +43,12 @@ def main(is_check):
         texts[f'data/{language}.sorted'] = names
         texts[f'data/{language}.records'] = open(f'{ROOT}/records/{language}.records', encoding='utf-8').read()
         texts['stdout'] += f'{language}: in order\n{names}\n'
+    for tag in LANGUAGES:
+        line = f'languages/{tag} over languages/root'
+        with open(f'{FOLDER}/data/languages/{tag}.sorted', encoding='utf-8') as file:
+            names = file.read()
+        texts['stdin'] += f'{line}\n'
+        texts['stdout'] += f'{line}: in order\n{names}\n'
     for name, text in texts.items():
         path = f'{FOLDER}/{name}'
         if not is_check:

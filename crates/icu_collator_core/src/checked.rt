@@ -165,7 +165,8 @@ impl<'a> CheckedTables<'a> {
         Some(element)
     }
 
-    /// Whether the reading of a text may begin at a character, and it is its own full list (UAX 15). No memory is taken.
+    /// Whether the reading of a text may begin at a character, and it is its own full list (UAX 15); `false` for another,
+    /// and for some that are so. No memory is taken.
     #[inline]
     pub fn is_own_beginning(&self, c: char) -> bool
         ensures { IsTrue result → IsOwnBeginning (meaning self.now.canonical) (weights_of (meaning self.now.canonical) self.now.tables) c }
