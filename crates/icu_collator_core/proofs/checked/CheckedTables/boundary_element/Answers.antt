@@ -1,4 +1,3 @@
-use Rattle.icu_collator_core.specs.FlatNotes.{IsBoundaryNote}
 use Rattle.icu_collator_core.proofs.checked.CheckedTables.boundary_element.Goals as goal
 
 pub returns-clause-plain : goal.returns-clause-plain
