@@ -6,7 +6,7 @@
 # PROGRAMS names a folder that has other executables, by the crates' names.
 set -uo pipefail
 top=$(cd "$(dirname "$(readlink -f "$0")")/.." && pwd)
-usual=(collate tests_run_rows tests_refused_memory examples_address_book)
+usual=(collate tests_collation_rows tests_refused_memory examples_address_book)
 [ $# != 0 ] || set -- "${usual[@]}"
 command -v valgrind >/dev/null || { echo "check_memory.sh: no valgrind: apt-get install valgrind" >&2; exit 1; }
 status=0

@@ -1,16 +1,17 @@
 #!/usr/bin/env python3
 """Writes the stored script of crates/tests_collation_rows and its answers: rows.py READING [--check]
 
-READING is a folder with an independent reading of the definitions (tools/answers.py), which gives the answers. Those of worked
-rows, and all of what a provider's changed tables are refused for, stand here, and are compared with it. With --check nothing is
-written: the two files have to be what they are, and the program, which has to be built (`rt run` in its folder), has to
-answer so.
+READING is a folder with an independent reading of the definitions (tools/answers.py) and of the program (tools/run_rows.py), which
+gives the answers. Those of worked rows, and all of what a provider's changed tables are refused for, stand here, and are
+compared with it. With --check nothing is written: the two files have to be what they are, and the program, which has to be
+built (`rt run` in its folder), has to answer so.
 """
 import os
 import sys
 
 from answers import FOLDER, answers, ask, load
 from row_tables import CHANGES, SECTIONS
+from run_rows import script_and_replies
 
 ENCODED = {'text': lambda text: text.encode().hex(), 'utf8': lambda text: text.encode().hex(),
            'utf16': lambda text: text.encode('utf-16-be').hex(), 'latin1': lambda text: text.encode('latin-1').hex()}
@@ -106,9 +107,11 @@ def main(words):
     if len(words) not in (1, 2) or words[1:] not in ([], ['--check']):
         sys.stderr.write(__doc__)
         return 2
-    script, shown = script_and_answers(load(words[0]))
-    print(f'{len(shown.splitlines())} answers')
-    differ = 0
+    questions, answered = script_and_answers(load(words[0]))
+    import model
+    runs, replies, differ = script_and_replies(model)
+    script, shown = f'{questions}\n{runs}', answered + replies
+    print(f'{len(shown.splitlines())} answers, {differ} runs differ from what is worked out')
     for name, text in (('stdin', script), ('stdout', shown)):
         path = os.path.join(FOLDER, name)
         if words[1:]:

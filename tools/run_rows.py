@@ -1,18 +1,7 @@
-#!/usr/bin/env python3
-"""Writes the stored script of crates/tests_run_rows and its answers: run_rows.py READING [--check]
+"""The runs among the rows of tools/rows.py. They and what is worked out of their replies stand in tools/run_tables.py; the other
+reading, a module `model` (`choice`, `serve`), gives all replies and has to agree."""
+from run_tables import RUNS, SERVED
 
-The runs and what is worked out of their replies stand in tools/run_tables.py. READING is a folder with an independent reading of
-the program, a module `model` (`choice`, `serve`), which gives all replies and has to agree. With --check nothing is written:
-the two files have to be what they are.
-"""
-import os
-import re
-import sys
-
-from run_tables import RUNS, SERVED, said
-
-ROOT = os.path.dirname(os.path.dirname(os.path.realpath(__file__)))
-FOLDER = os.path.join(ROOT, 'crates/tests_run_rows')
 SHORT = {'\0': '\\0', '\t': '\\t', '\r': '\\r', '\n': '\\n', '\\': '\\\\'}
 
 
@@ -55,8 +44,8 @@ def end_of(answers):
     return 'status 1' if isinstance(last, str) and last.startswith('collate: ') else SERVED
 
 
-def script_and_answers(oracle):
-    """The script, its answers, and how many of their lines differ from the worked ones."""
+def script_and_replies(oracle):
+    """The script, its replies, and how many runs differ from the worked ones."""
     made, shown, differ = [], [], 0
     for title, below, more, runs in RUNS:
         made += [f'# {title}', '\n'.join(['records', *below])] + (['\n'.join(['more', *more])] if more else [])
@@ -71,25 +60,3 @@ def script_and_answers(oracle):
                 differ += 1
             shown += [heading(words), *lines]
     return '\n\n'.join(made) + '\n', ''.join(f'{line}\n' for line in shown), differ
-
-
-def main(words):
-    if len(words) not in (1, 2) or words[1:] not in ([], ['--check']):
-        sys.stderr.write(__doc__)
-        return 2
-    sys.path.insert(0, words[0])
-    import model as oracle
-    script, shown, differ = script_and_answers(oracle)
-    for name, text in (('stdin', script), ('stdout', shown)):
-        path = os.path.join(FOLDER, name)
-        if words[1:]:
-            differ += open(path, newline='').read() != text
-        else:
-            with open(path, 'w', newline='') as file:
-                file.write(text)
-    print(f'{len(shown.splitlines())} lines, {differ} differ')
-    return differ != 0
-
-
-if __name__ == '__main__':
-    sys.exit(main(sys.argv[1:]))

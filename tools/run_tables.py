@@ -1,4 +1,4 @@
-"""The runs of crates/tests_run_rows: sections of a title, records behind the letters or in their place, and runs. A run is the option
+"""The runs of crates/tests_collation_rows: sections of a title, records behind the letters or in their place, and runs. A run is the option
 words, its commands, and what is worked out of its replies, a line each. Keys are hexadecimal; an answer that begins with `..`
 is worked out in its end alone, and None stands for a line that the definitions alone give (tools/run_rows.py)."""
 

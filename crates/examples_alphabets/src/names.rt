@@ -14,11 +14,7 @@ pub fn records_of(alloc: Global, root: &[u8], records: &[u8]) -> anyhow::Result<
         return Ok(Records::read(alloc, records)?);
     }
     let joined = join(alloc, root, records)?;
-    Ok(Records::read_within(
-        alloc,
-        joined.bytes(),
-        Limits::UNICODE,
-    )?)
+    Ok(Records::read_within(alloc, joined.bytes(), Limits::UNICODE)?)
 }
 
 /// The names, a line each, by records, whose settings decide.

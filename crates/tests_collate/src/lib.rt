@@ -1,5 +1,5 @@
-//! Tests of the program `collate` below its `main`, and of the lists below its index, by public calls. They stand here so
-//! that the crates below are proved once.
+//! Tests of the program `collate` below its `main`, of the lists below its index, and of lines sorted and merged, by public
+//! calls. They stand here so that the crates below are proved once.
 #![tactic(auto)]
 
 #[cfg(test)]
@@ -11,7 +11,11 @@ mod failing;
 #[cfg(test)]
 mod hashes;
 #[cfg(test)]
+mod letters;
+#[cfg(test)]
 mod limits;
+#[cfg(test)]
+mod merging;
 #[cfg(test)]
 mod names;
 #[cfg(test)]
@@ -19,10 +23,14 @@ mod option_words;
 #[cfg(test)]
 mod over;
 #[cfg(test)]
+mod reading;
+#[cfg(test)]
 mod reloads;
 #[cfg(test)]
 mod runs;
 #[cfg(test)]
 mod slot_list;
+#[cfg(test)]
+mod sorting;
 #[cfg(test)]
 mod worked;

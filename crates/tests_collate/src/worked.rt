@@ -4,6 +4,7 @@
 use crate::failing::{FailingReader, FailingWriter, Failure};
 use crate::names::{LETTERS, PREFERENCES, PRIMARY};
 use crate::reloads::{CH, joined};
+use assertions::{assert_holds, assert_holds_in, assert_same_in};
 use collate_records::records::Records;
 use collate_run::run::{self, RunFault};
 use collate_run::watched::Watched;
@@ -102,13 +103,9 @@ fn assert_reads(
     } else {
         RunFault::Read
     };
-    assert_eq!(rt; end, Err(wanted), "{most} bytes a call, after {calls}");
+    assert_same_in(rt, &(most, calls), end, Err(wanted));
     let replies = replies_within(alloc, bytes)?;
-    assert_eq!(rt;
-        written.as_slice(),
-        replies.as_slice(),
-        "{most} bytes a call, after {calls}"
-    );
+    assert_same_in(rt, &(most, calls), written.as_slice(), replies.as_slice());
     Ok(())
 }
 
@@ -143,19 +140,16 @@ fn wrote_all(
     };
     let end = ended(alloc, text, writer)?;
     let replies = replies_within(alloc, text.len())?;
-    assert!(rt;
-        replies.starts_with(&written),
-        "{most} bytes a call, after {calls}"
-    );
-    assert!(rt; written.len() >= calls.min(replies.len()));
-    assert!(rt; written.len() <= calls.saturating_mul(most));
+    assert_holds_in(rt, &(most, calls), replies.starts_with(&written));
+    assert_holds(rt, written.len() >= calls.min(replies.len()));
+    assert_holds(rt, written.len() <= calls.saturating_mul(most));
     let is_whole = written.len() == replies.len();
     let wanted = if is_whole {
         RunFault::CutReload
     } else {
         RunFault::Write
     };
-    assert_eq!(rt; end, Err(wanted), "{most} bytes a call, after {calls}");
+    assert_same_in(rt, &(most, calls), end, Err(wanted));
     Ok(is_whole)
 }
 

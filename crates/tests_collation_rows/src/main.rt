@@ -1,4 +1,4 @@
-//! Answers a script of questions about collations: `tests_collation_rows < SCRIPT`.
+//! Answers a script of questions about collations, and serves runs: `tests_collation_rows < SCRIPT`.
 //!
 //! The paragraphs of a script stand apart by an empty line. Each begins with a line that says what it is:
 //!
@@ -10,14 +10,15 @@
 //! - `tables`: questions to the tables of the records (module `elements`).
 //! - `provider`: changes of what a provider gives of the records' tables. The answer to each, upon those before it, is what a
 //!   collator is refused for then, or that it is made (module `provider`).
+//! - `run WORDS`: commands of a run of `collate` over the records (module `runs`).
 //! - `#` and anything: a comment. A question to collators or tables, or a change, may be one too.
 //!
 //! The records are compiled twice, with fast tries and with small ones, and each question is asked over both: where the
 //! answers differ, both are printed (module `both`).
 //!
 //! Texts are bytes in hexadecimal, those of a unit of UTF-16 the upper one first, or `-` for none. A question and its answer
-//! are printed as a line, and so is the first line of a paragraph that asks, and one with options. A script with another line ends there, with a
-//! line that says so.
+//! are printed as a line, and so is the first line of a paragraph that asks, and one with options. A script with another line
+//! ends there, with a line that says so.
 #![tactic(auto)]
 
 mod asked;
@@ -30,6 +31,7 @@ mod keys;
 mod options;
 mod orders;
 mod provider;
+mod runs;
 mod script;
 mod sinks;
 

@@ -5,6 +5,7 @@ use crate::element_rows::ask_tables;
 use crate::files::ask_reader;
 use crate::forms::ask_normalisers;
 use crate::provider::try_changes;
+use crate::runs::serve_run;
 use std::alloc::Global;
 
 /// The records that count.
@@ -55,7 +56,7 @@ fn answer_over(rt: &HostRuntime, records: &str, kind: &str, lines: &str) -> Opti
         "collators" => ask_collators(rt, records, lines),
         "tables" => ask_tables(rt, records, lines),
         "provider" => try_changes(rt, records, lines),
-        _ => None,
+        _ => serve_run(rt, records, kind, lines),
     }
 }
 
