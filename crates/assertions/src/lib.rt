@@ -1,43 +1,52 @@
-//! What tests assert, by calls. `assert!` and `assert_eq!` are proved anew wherever they stand, for a second or three; a call
-//! of these in a tenth of that. One that fails names the line of the call.
+//! What tests assert of two values. `assert_eq!` is proved anew wherever it stands, for one second to three, `assert_same!`
+//! in a third of that.
 #![tactic(auto)]
 
-ghost use Rattle.std.specs.Prelude.{◌≡◌, true};
-
 use std::fmt::Debug;
-use std::process::Abort;
 
-/// Ends a test in which something doesn't hold.
-pub fn assert_holds(rt: &impl Abort, holds: bool)
-    ensures { holds ≡ true }
-{
-    if holds {
-        return;
+/// Two values that should be the same.
+#[derive(Debug, Drop)]
+pub struct Different<T: Drop> {
+    pub left: T,
+    pub right: T,
+}
+
+/// Two values that should be the same in a case.
+#[derive(Debug, Drop)]
+pub struct DifferentIn<C: Drop, T: Drop> {
+    pub case: C,
+    pub left: T,
+    pub right: T,
+}
+
+/// Nothing where two values are the same, else both.
+pub fn same<T: PartialEq + Debug + Drop>(left: T, right: T) -> Result<(), Different<T>> {
+    if left == right {
+        return Ok(());
     }
-    rt.panic("it doesn't hold");
+    Err(Different { left, right })
 }
 
-/// Ends a test in which something doesn't hold in one of several cases, and prints the case.
-pub fn assert_holds_in<C: Debug>(rt: &impl Abort, case: &C, holds: bool)
-    ensures { holds ≡ true }
-{
-    if holds {
-        return;
-    }
-    rt.panic(format_args!("it doesn't hold in {case:?}"));
-}
-
-/// Ends a test in which two values differ, and prints them.
-pub fn assert_same<T: PartialEq + Debug + Drop>(rt: &impl Abort, left: T, right: T) {
-    assert_eq!(rt; left, right);
-}
-
-/// Ends a test in which two values differ in one of several cases, and prints them and the case.
-pub fn assert_same_in<C: Debug, T: PartialEq + Debug + Drop>(
-    rt: &impl Abort,
-    case: &C,
+/// Nothing where two values are the same, else both, and the case in which they should be.
+pub fn same_in<C: Debug + Drop, T: PartialEq + Debug + Drop>(
+    case: C,
     left: T,
     right: T,
-) {
-    assert_eq!(rt; left, right, "in {case:?}");
+) -> Result<(), DifferentIn<C, T>> {
+    if left == right {
+        return Ok(());
+    }
+    Err(DifferentIn { case, left, right })
+}
+
+/// Ends a test in which two values differ, and prints them: `assert_same!(rt; left, right)`, or, with one of several cases,
+/// `assert_same!(rt; left, right; case)`.
+#[macro_export]
+macro_rules! assert_same {
+    ($rt:expr; $left:expr, $right:expr $(,)?) => {
+        $crate::same(&$left, &$right).expect(&$rt, "not the same")
+    };
+    ($rt:expr; $left:expr, $right:expr; $case:expr $(,)?) => {
+        $crate::same_in(&$case, &$left, &$right).expect(&$rt, "not the same")
+    };
 }

@@ -4,7 +4,7 @@
 use crate::commands::words_of;
 use crate::failing::{FailingReader, FailingWriter, Failure};
 use crate::runs::{OPTIONS, PREFERENCES, REPLIES, TEXT};
-use assertions::{assert_same, assert_same_in};
+use assertions::assert_same;
 use collate_records::records::Records;
 use collate_run::buffered::{run_buffered, run_buffered_with_seed, serve_buffered};
 use collate_run::choice::Choice;
@@ -86,8 +86,8 @@ where
         &mut reader,
         &mut writer,
     );
-    assert_same(rt, reader.failed(), result == Err(RunFault::Read));
-    assert_same(rt, writer.failed(), result == Err(RunFault::Write));
+    assert_same!(rt; reader.failed(), result == Err(RunFault::Read));
+    assert_same!(rt; writer.failed(), result == Err(RunFault::Write));
     result
 }
 
@@ -96,14 +96,14 @@ fn ok_run_buffered(rt: HostRuntime) -> Result<(), Fail> {
     let alloc = rt.alloc();
     let mut written = Vec::new(alloc);
     let result = run_over_nothing(&rt, alloc, TEXT, &mut written);
-    assert_same(&rt, result, Ok(()));
-    assert_same(&rt, written.as_slice(), REPLIES);
+    assert_same!(rt; result, Ok(()));
+    assert_same!(rt; written.as_slice(), REPLIES);
     for room in [1, 5, 6, 7, 24, 34, 51, 64] {
         written.clear();
         let reader = BufReader::with_capacity(alloc, room, TEXT)?;
         let result = run_over_nothing(&rt, alloc, reader, &mut written);
-        assert_same_in(&rt, &room, result, Ok(()));
-        assert_same_in(&rt, &room, written.as_slice(), REPLIES);
+        assert_same!(rt; result, Ok(()); room);
+        assert_same!(rt; written.as_slice(), REPLIES; room);
     }
     Ok(())
 }
@@ -124,8 +124,8 @@ fn ok_run_buffered_with_seed(rt: HostRuntime) -> Result<(), Fail> {
         &mut reader,
         &mut writer,
     );
-    assert_same(&rt, result, Ok(()));
-    assert_same(&rt, written.as_slice(), REPLIES);
+    assert_same!(rt; result, Ok(()));
+    assert_same!(rt; written.as_slice(), REPLIES);
     Ok(())
 }
 
@@ -147,9 +147,9 @@ fn ok_serve_buffered(rt: HostRuntime) -> Result<(), Fail> {
         &mut writer,
         &mut errors,
     );
-    assert_same(&rt, status, 0);
-    assert_same(&rt, written.as_slice(), REPLIES);
-    assert_same(&rt, errors.as_slice(), b"".as_slice());
+    assert_same!(rt; status, 0);
+    assert_same!(rt; written.as_slice(), REPLIES);
+    assert_same!(rt; errors.as_slice(), b"".as_slice());
     Ok(())
 }
 
@@ -180,13 +180,9 @@ fn who_types_gets_each_reply_at_once(rt: HostRuntime) -> Result<(), Fail> {
     };
     let reader = BufReader::with_capacity(alloc, 64, typist)?;
     let result = run_over_nothing(&rt, alloc, reader, screen);
-    assert_same(&rt, result, Ok(()));
-    assert_same(&rt, seen.get(), shown.len());
-    assert_same(
-        &rt,
-        shown.as_slice(),
-        b"added\nduplicate\nnames 1\nb\nnames 1\nb\nrefused 1 grammar\nremoved\nbad\nadded\nduplicate\n".as_slice(),
-    );
+    assert_same!(rt; result, Ok(()));
+    assert_same!(rt; seen.get(), shown.len());
+    assert_same!(rt; shown.as_slice(), b"added\nduplicate\nnames 1\nb\nnames 1\nb\nrefused 1 grammar\nremoved\nbad\nadded\nduplicate\n".as_slice());
     Ok(())
 }
 
@@ -223,8 +219,8 @@ fn who_types_gets_long_replies_at_once(rt: HostRuntime) -> Result<(), Fail> {
     };
     let reader = BufReader::with_capacity(alloc, 65_536, typist)?;
     let result = run_over_nothing(&rt, alloc, reader, screen);
-    assert_same(&rt, result, Ok(()));
-    assert_same(&rt, (seen.get(), shown.len()), (200_041, 200_041));
+    assert_same!(rt; result, Ok(()));
+    assert_same!(rt; (seen.get(), shown.len()), (200_041, 200_041));
     Ok(())
 }
 
@@ -242,9 +238,9 @@ fn replies_to_what_stands_together_are_written_together(rt: HostRuntime) -> Resu
         calls: &calls,
     };
     let result = run_over_nothing(&rt, alloc, text.as_slice(), screen);
-    assert_same(&rt, result, Ok(()));
-    assert_same(&rt, (seen.get(), shown.len()), (7000, 7000));
-    assert_same(&rt, calls.get(), 1);
+    assert_same!(rt; result, Ok(()));
+    assert_same!(rt; (seen.get(), shown.len()), (7000, 7000));
+    assert_same!(rt; calls.get(), 1);
     Ok(())
 }
 
@@ -262,8 +258,8 @@ fn replies_past_the_room_are_all_written(rt: HostRuntime) -> Result<(), Fail> {
         calls: &calls,
     };
     let result = run_over_nothing(&rt, alloc, text.as_slice(), screen);
-    assert_same(&rt, result, Ok(()));
-    assert_same(&rt, (seen.get(), shown.len()), (140_000, 140_000));
+    assert_same!(rt; result, Ok(()));
+    assert_same!(rt; (seen.get(), shown.len()), (140_000, 140_000));
     Ok(())
 }
 
@@ -294,8 +290,8 @@ fn run_buffered_ends_where_a_read_fails(rt: HostRuntime) -> Result<(), Fail> {
             };
             let reader = BufReader::with_capacity(alloc, 64, reader)?;
             let result = run_over_nothing(&rt, alloc, reader, &mut written);
-            assert_same_in(&rt, &calls, result, Err(RunFault::Read));
-            assert_same_in(&rt, &calls, Some(written.as_slice()), REPLIES.get(..bytes));
+            assert_same!(rt; result, Err(RunFault::Read); calls);
+            assert_same!(rt; Some(written.as_slice()), REPLIES.get(..bytes); calls);
         }
     }
     Ok(())
@@ -320,8 +316,8 @@ fn run_buffered_ends_where_a_write_fails(rt: HostRuntime) {
                 failure,
             };
             let result = run_over_nothing(&rt, alloc, TEXT, writer);
-            assert_same_in(&rt, &calls, result, Err(RunFault::Write));
-            assert_same_in(&rt, &calls, Some(written.as_slice()), REPLIES.get(..bytes));
+            assert_same!(rt; result, Err(RunFault::Write); calls);
+            assert_same!(rt; Some(written.as_slice()), REPLIES.get(..bytes); calls);
         }
     }
 }
@@ -336,11 +332,11 @@ fn run_buffered_ends_at_a_long_line(rt: HostRuntime) -> Result<(), Fail> {
     text.push(b'\n')?;
     let mut written = Vec::new(alloc);
     let result = run_over_nothing(&rt, alloc, text.as_slice(), &mut written);
-    assert_same(&rt, result, Err(RunFault::LineTooLong));
-    assert_same(&rt, written.as_slice(), b"bad\n".as_slice());
+    assert_same!(rt; result, Err(RunFault::LineTooLong));
+    assert_same!(rt; written.as_slice(), b"bad\n".as_slice());
     written.clear();
     let result = run_over_nothing(&rt, alloc, text.get(..longest).unwrap_or(b""), &mut written);
-    assert_same(&rt, result, Ok(()));
-    assert_same(&rt, written.as_slice(), b"bad\n".as_slice());
+    assert_same!(rt; result, Ok(()));
+    assert_same!(rt; written.as_slice(), b"bad\n".as_slice());
     Ok(())
 }

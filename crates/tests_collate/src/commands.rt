@@ -2,7 +2,7 @@
 //! worked examples, and from an independent reading of the file format.
 
 use crate::names::LETTERS;
-use assertions::{assert_holds, assert_holds_in, assert_same, assert_same_in};
+use assertions::assert_same;
 use collate_run::choice::Choice;
 use collate_run::serve;
 use collate_run::watched::Watched;
@@ -36,22 +36,14 @@ fn choices_are_a_file_and_options_in_any_order(rt: HostRuntime) -> Result<(), Fa
     ];
     let words = words_of(alloc, &texts)?;
     let choice = Choice::read(&words).ok_or("no choice")?;
-    assert_same(&rt, choice.file, "a.records");
+    assert_same!(rt; choice.file, "a.records");
     let (options, preferences) = (choice.options, choice.prefs);
-    assert_same(&rt, options.strength, Some(Strength::Identical));
-    assert_same(
-        &rt,
-        options.alternate_handling,
-        Some(AlternateHandling::Shifted),
-    );
-    assert_same(&rt, options.max_variable, Some(MaxVariable::Currency));
-    assert_same(&rt, options.case_level, Some(CaseLevel::On));
-    assert_same(&rt, preferences.case_first, Some(CollationCaseFirst::Upper));
-    assert_same(
-        &rt,
-        preferences.numeric_ordering,
-        Some(CollationNumericOrdering::True),
-    );
+    assert_same!(rt; options.strength, Some(Strength::Identical));
+    assert_same!(rt; options.alternate_handling, Some(AlternateHandling::Shifted));
+    assert_same!(rt; options.max_variable, Some(MaxVariable::Currency));
+    assert_same!(rt; options.case_level, Some(CaseLevel::On));
+    assert_same!(rt; preferences.case_first, Some(CollationCaseFirst::Upper));
+    assert_same!(rt; preferences.numeric_ordering, Some(CollationNumericOrdering::True));
     Ok(())
 }
 
@@ -59,16 +51,16 @@ fn choices_are_a_file_and_options_in_any_order(rt: HostRuntime) -> Result<(), Fa
 fn what_no_word_gives_is_left_open(rt: HostRuntime) -> Result<(), Fail> {
     let words = words_of(rt.alloc(), &["strength=primary"])?;
     let choice = Choice::read(&words).ok_or("no choice")?;
-    assert_same(&rt, choice.file, "strength=primary");
+    assert_same!(rt; choice.file, "strength=primary");
     let (options, preferences) = (choice.options, choice.prefs);
-    assert_same(&rt, options.strength, None);
-    assert_same(&rt, options.alternate_handling, None);
-    assert_same(&rt, options.max_variable, None);
-    assert_same(&rt, options.case_level, None);
-    assert_same(&rt, preferences.case_first, None);
-    assert_same(&rt, preferences.numeric_ordering, None);
-    assert_same(&rt, preferences.locale, "");
-    assert_holds(&rt, preferences.collation_type.is_none());
+    assert_same!(rt; options.strength, None);
+    assert_same!(rt; options.alternate_handling, None);
+    assert_same!(rt; options.max_variable, None);
+    assert_same!(rt; options.case_level, None);
+    assert_same!(rt; preferences.case_first, None);
+    assert_same!(rt; preferences.numeric_ordering, None);
+    assert_same!(rt; preferences.locale, "");
+    assert!(rt; preferences.collation_type.is_none());
     Ok(())
 }
 
@@ -93,7 +85,7 @@ fn other_words_are_no_choice(rt: HostRuntime) -> Result<(), Fail> {
     ];
     for texts in others {
         let words = words_of(alloc, texts)?;
-        assert_holds_in(&rt, &texts, Choice::read(&words).is_none());
+        assert!(rt; Choice::read(&words).is_none(), "{texts:?}");
     }
     Ok(())
 }
@@ -146,7 +138,7 @@ fn a_run_answers_in_order(rt: HostRuntime) -> Result<(), Fail> {
     ];
     for (word, commands, replies) in rows {
         let text = written(alloc, &["a.records", word], LETTERS, commands)?;
-        assert_same_in(&rt, &word, text.as_slice(), replies);
+        assert_same!(rt; text.as_slice(), replies; word);
     }
     Ok(())
 }
@@ -181,7 +173,7 @@ fn numbers_stand_by_value(rt: HostRuntime) -> Result<(), Fail> {
     let commands = b"add a10\nadd a9\nadd a010\nlist\n";
     let text = written(rt.alloc(), &words, DIGITS, commands)?;
     let replies = b"added\nadded\nadded\nnames 3\na9\na10\na010\n";
-    assert_same(&rt, text.as_slice(), replies.as_slice());
+    assert_same!(rt; text.as_slice(), replies.as_slice());
     Ok(())
 }
 
@@ -257,7 +249,7 @@ fn each_option_tells_in_keys(rt: HostRuntime) -> Result<(), Fail> {
     ];
     for (words, key) in rows {
         let text = written(alloc, words, SIGNS, b"key a A.+$1\n")?;
-        assert_same_in(&rt, &words, text.as_slice(), key);
+        assert_same!(rt; text.as_slice(), key; words);
     }
     Ok(())
 }

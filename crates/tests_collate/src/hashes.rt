@@ -2,7 +2,7 @@
 
 ghost use Rattle.std.specs.Prelude.{◌<◌};
 
-use assertions::{assert_holds, assert_same};
+use assertions::assert_same;
 use collate_lists::hash_list::HashList;
 use collate_lists::hashing::{FIXED_SEED, hash_of};
 use std::alloc::{AllocError, Global};
@@ -11,15 +11,11 @@ use std::test::Fail;
 // by powers of the point modulo 4,294,967,291, in Python
 #[test]
 fn ok_hash_of(rt: HostRuntime) {
-    assert_same(&rt, hash_of(7, b""), 1);
-    assert_same(&rt, hash_of(7, b"a"), 99);
-    assert_same(&rt, hash_of(7, b"ab"), 786);
-    assert_same(&rt, hash_of(FIXED_SEED, b"ab"), 1_578_635_678);
-    assert_same(
-        &rt,
-        hash_of(FIXED_SEED, b"a name of more than eight bytes"),
-        3_108_687_587,
-    );
+    assert_same!(rt; hash_of(7, b""), 1);
+    assert_same!(rt; hash_of(7, b"a"), 99);
+    assert_same!(rt; hash_of(7, b"ab"), 786);
+    assert_same!(rt; hash_of(FIXED_SEED, b"ab"), 1_578_635_678);
+    assert_same!(rt; hash_of(FIXED_SEED, b"a name of more than eight bytes"), 3_108_687_587);
 }
 
 /// Puts a hash after the others, once there is room.
@@ -34,22 +30,22 @@ fn put(list: &mut HashList, hash: usize) -> Result<(), AllocError>
 #[test]
 fn ok_push(rt: HostRuntime) -> Result<(), Fail> {
     let mut list = HashList::new(rt.alloc(), FIXED_SEED);
-    assert_same(&rt, list.last_before(7, 3), None);
+    assert_same!(rt; list.last_before(7, 3), None);
     put(&mut list, 7)?;
     put(&mut list, 5)?;
     put(&mut list, 7)?;
-    assert_same(&rt, list.last_before(7, 3), Some(2));
-    assert_same(&rt, list.last_before(7, 2), Some(0));
-    assert_same(&rt, list.last_before(7, 0), None);
-    assert_same(&rt, list.last_before(16, 3), None);
+    assert_same!(rt; list.last_before(7, 3), Some(2));
+    assert_same!(rt; list.last_before(7, 2), Some(0));
+    assert_same!(rt; list.last_before(7, 0), None);
+    assert_same!(rt; list.last_before(16, 3), None);
     if !list.is_empty() {
         list.take_out(0);
     }
-    assert_same(&rt, list.last_before(7, 3), Some(2));
-    assert_same(&rt, list.last_before(7, 2), None);
+    assert_same!(rt; list.last_before(7, 3), Some(2));
+    assert_same!(rt; list.last_before(7, 2), None);
     list.drop_empty();
-    assert_same(&rt, list.last_before(5, 2), Some(0));
-    assert_same(&rt, list.last_before(7, 2), Some(1));
+    assert_same!(rt; list.last_before(5, 2), Some(0));
+    assert_same!(rt; list.last_before(7, 2), Some(1));
     Ok(())
 }
 
@@ -57,11 +53,11 @@ fn ok_push(rt: HostRuntime) -> Result<(), Fail> {
 fn ok_reserve(rt: HostRuntime) -> Result<(), Fail> {
     let mut list = HashList::new(rt.alloc(), FIXED_SEED);
     list.reserve()?;
-    assert_holds(&rt, list.is_empty());
+    assert!(rt; list.is_empty());
     list.push(3);
     list.reserve()?;
-    assert_same(&rt, list.len(), 1);
-    assert_same(&rt, list.last_before(3, 1), Some(0));
+    assert_same!(rt; list.len(), 1);
+    assert_same!(rt; list.last_before(3, 1), Some(0));
     Ok(())
 }
 
@@ -71,9 +67,9 @@ fn ok_same_before(rt: HostRuntime) -> Result<(), Fail> {
     for hash in [7, 16, 7, 25] {
         put(&mut list, hash + 1)?;
     }
-    assert_same(&rt, list.last_before(8, 4), Some(2));
+    assert_same!(rt; list.last_before(8, 4), Some(2));
     if let Some(place) = list.last_before(8, list.len()) {
-        assert_same(&rt, list.same_before(place), Some(0));
+        assert_same!(rt; list.same_before(place), Some(0));
     }
     Ok(())
 }
@@ -122,9 +118,9 @@ fn are_found(list: &HashList, plain: &[usize]) -> bool {
 #[test]
 fn ok_many(rt: HostRuntime) -> Result<(), Fail> {
     let (mut list, mut plain) = put_in(rt.alloc(), 500)?;
-    assert_holds(&rt, are_found(&list, plain.as_slice()));
+    assert!(rt; are_found(&list, plain.as_slice()));
     list.drop_empty();
     plain.retain(|hash| *hash > 0);
-    assert_holds(&rt, are_found(&list, plain.as_slice()));
+    assert!(rt; are_found(&list, plain.as_slice()));
     Ok(())
 }

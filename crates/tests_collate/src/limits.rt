@@ -3,7 +3,7 @@
 use crate::commands::words_of;
 use crate::names::{LETTERS, PREFERENCES, PRIMARY};
 use crate::reloads::joined;
-use assertions::{assert_holds, assert_same};
+use assertions::assert_same;
 use collate_index::index::{Index, ReloadError};
 use collate_records::records::Records;
 use collate_records::rule::{RecordFault, RecordsError, Rule};
@@ -47,18 +47,10 @@ fn a_code_point_more(rt: HostRuntime) -> Result<(), Fail> {
     let alloc = rt.alloc();
     let most = lines(alloc, 150, 1)?;
     let more = lines(alloc, 151, 1)?;
-    assert_same(&rt, refusal(alloc, &most, Limits::STANDARD), None);
-    assert_same(
-        &rt,
-        refusal(alloc, &more, Limits::STANDARD),
-        fault(151, Rule::Limit),
-    );
-    assert_same(&rt, refusal(alloc, &more, Limits::UNICODE), None);
-    assert_same(
-        &rt,
-        Records::read(alloc, &more).err(),
-        fault(151, Rule::Limit),
-    );
+    assert_same!(rt; refusal(alloc, &most, Limits::STANDARD), None);
+    assert_same!(rt; refusal(alloc, &more, Limits::STANDARD), fault(151, Rule::Limit));
+    assert_same!(rt; refusal(alloc, &more, Limits::UNICODE), None);
+    assert_same!(rt; Records::read(alloc, &more).err(), fault(151, Rule::Limit));
     Ok(())
 }
 
@@ -67,13 +59,9 @@ fn a_record_more(rt: HostRuntime) -> Result<(), Fail> {
     let alloc = rt.alloc();
     let most = lines(alloc, 1000, 25)?;
     let more = lines(alloc, 1001, 25)?;
-    assert_same(&rt, refusal(alloc, &most, Limits::STANDARD), None);
-    assert_same(
-        &rt,
-        refusal(alloc, &more, Limits::STANDARD),
-        fault(1001, Rule::Limit),
-    );
-    assert_same(&rt, refusal(alloc, &more, Limits::UNICODE), None);
+    assert_same!(rt; refusal(alloc, &most, Limits::STANDARD), None);
+    assert_same!(rt; refusal(alloc, &more, Limits::STANDARD), fault(1001, Rule::Limit));
+    assert_same!(rt; refusal(alloc, &more, Limits::UNICODE), None);
     Ok(())
 }
 
@@ -85,39 +73,19 @@ fn a_byte_more(rt: HostRuntime) -> Result<(), Fail> {
         code_points: 1,
         records: 1,
     };
-    assert_same(&rt, refusal(alloc, b"w 4E00 ;\n\n\n", limits), None);
-    assert_same(
-        &rt,
-        refusal(alloc, b"w 4E00 ;\n\n\n\n", limits),
-        fault(4, Rule::Grammar),
-    );
-    assert_same(
-        &rt,
-        refusal(alloc, b"\nw 4E00 ; \n", limits),
-        fault(2, Rule::Grammar),
-    );
-    assert_same(
-        &rt,
-        refusal(
+    assert_same!(rt; refusal(alloc, b"w 4E00 ;\n\n\n", limits), None);
+    assert_same!(rt; refusal(alloc, b"w 4E00 ;\n\n\n\n", limits), fault(4, Rule::Grammar));
+    assert_same!(rt; refusal(alloc, b"\nw 4E00 ; \n", limits), fault(2, Rule::Grammar));
+    assert_same!(rt; refusal(
             alloc,
             b"w 4E00 4E01 ;\n",
             Limits {
                 bytes: 14,
                 ..limits
-            },
-        ),
-        fault(1, Rule::Limit),
-    );
-    assert_same(
-        &rt,
-        refusal(alloc, b"w 61 ;\n", Limits { bytes: 0, ..limits }),
-        fault(1, Rule::Grammar),
-    );
-    assert_same(
-        &rt,
-        refusal(alloc, b"", Limits { bytes: 0, ..limits }),
-        None,
-    );
+            }
+        ), fault(1, Rule::Limit));
+    assert_same!(rt; refusal(alloc, b"w 61 ;\n", Limits { bytes: 0, ..limits }), fault(1, Rule::Grammar));
+    assert_same!(rt; refusal(alloc, b"", Limits { bytes: 0, ..limits }), None);
     Ok(())
 }
 
@@ -127,23 +95,22 @@ fn a_reload_goes_by_the_limits_of_its_index(rt: HostRuntime) -> Result<(), Fail>
     let more = lines(alloc, 151, 1)?;
     let large = joined(alloc, &[LETTERS, more.as_slice()])?;
     let records = Records::read(alloc, LETTERS)?;
-    assert_same(&rt, records.limits(), Limits::STANDARD);
+    assert_same!(rt; records.limits(), Limits::STANDARD);
     let mut index = Index::new(alloc, records, &PREFERENCES, &PRIMARY)?;
-    assert_holds(
-        &rt,
+    assert!(rt;
         matches!(
             index.reload(&large),
             Err(ReloadError::Record(RecordFault {
                 rule: Rule::Limit,
                 ..
             }))
-        ),
+        )
     );
     let records = Records::read_within(alloc, LETTERS, Limits::UNICODE)?;
-    assert_same(&rt, records.limits(), Limits::UNICODE);
+    assert_same!(rt; records.limits(), Limits::UNICODE);
     let mut index = Index::new(alloc, records, &PREFERENCES, &PRIMARY)?;
-    assert_same(&rt, index.reload(&large), Ok(0));
-    assert_same(&rt, index.reload(&large), Ok(0));
+    assert_same!(rt; index.reload(&large), Ok(0));
+    assert_same!(rt; index.reload(&large), Ok(0));
     Ok(())
 }
 
@@ -190,8 +157,8 @@ fn the_program_reads_one_byte_past_the_limit(rt: HostRuntime) -> Result<(), Fail
     ];
     for (file, status, text) in rows {
         let answer = served(alloc, limits, Ok(file), true, b"add a\nlist\n")?;
-        assert_same(&rt, answer.0, status);
-        assert_same(&rt, answer.2.as_slice(), text);
+        assert_same!(rt; answer.0, status);
+        assert_same!(rt; answer.2.as_slice(), text);
     }
     Ok(())
 }
@@ -200,16 +167,12 @@ fn the_program_reads_one_byte_past_the_limit(rt: HostRuntime) -> Result<(), Fail
 fn want_of_an_input_is_told_behind_faults_of_the_file(rt: HostRuntime) -> Result<(), Fail> {
     let alloc = rt.alloc();
     let memory = served(alloc, Limits::STANDARD, Ok(LETTERS), false, b"list\n")?;
-    assert_same(&rt, memory.0, 1);
-    assert_same(&rt, memory.2.as_slice(), b"collate: memory\n".as_slice());
+    assert_same!(rt; memory.0, 1);
+    assert_same!(rt; memory.2.as_slice(), b"collate: memory\n".as_slice());
     let lacking = io::Error::from(io::ErrorKind::NotFound);
     let unreadable = served(alloc, Limits::STANDARD, Err(lacking), false, b"list\n")?;
-    assert_same(&rt, unreadable.0, 1);
-    assert_same(
-        &rt,
-        unreadable.2.as_slice(),
-        b"collate: cannot read a.records\n".as_slice(),
-    );
+    assert_same!(rt; unreadable.0, 1);
+    assert_same!(rt; unreadable.2.as_slice(), b"collate: cannot read a.records\n".as_slice());
     Ok(())
 }
 
@@ -234,8 +197,8 @@ fn a_reload_takes_lines_past_its_limit(rt: HostRuntime) -> Result<(), Fail> {
     ];
     for (commands, replies) in rows {
         let answer = served(alloc, limits, Ok(b"".as_slice()), true, commands)?;
-        assert_same(&rt, answer.0, 0);
-        assert_same(&rt, answer.1.as_slice(), replies);
+        assert_same!(rt; answer.0, 0);
+        assert_same!(rt; answer.1.as_slice(), replies);
     }
     Ok(())
 }
@@ -251,8 +214,8 @@ impl RandomSource for NoSource {
 
 #[test]
 fn ok_seeded(rt: HostRuntime) {
-    assert_same(&rt, Setup::UNICODE.seeded(&NoSource), Setup::UNICODE);
+    assert_same!(rt; Setup::UNICODE.seeded(&NoSource), Setup::UNICODE);
     let setup = Setup::UNICODE.seeded(&rt);
-    assert_same(&rt, setup.limits, Limits::UNICODE);
-    assert_holds(&rt, setup.seed != Setup::UNICODE.seed);
+    assert_same!(rt; setup.limits, Limits::UNICODE);
+    assert!(rt; setup.seed != Setup::UNICODE.seed);
 }

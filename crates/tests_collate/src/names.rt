@@ -1,7 +1,7 @@
 //! Names over a small records file: what an index and a run answer. Expected values come from the specification's worked
 //! examples, and from an independent reading of the file format.
 
-use assertions::{assert_holds, assert_holds_in, assert_same};
+use assertions::assert_same;
 use collate_index::collators::collator_of;
 use collate_index::index::{Absent, AddError, Index};
 use collate_index::{FIXED_SEED, IndexKey};
@@ -82,9 +82,9 @@ pub(crate) fn lists(index: &Index, expected: &[&[u8]]) -> bool {
 #[test]
 fn ok_new(rt: HostRuntime) -> Result<(), Fail> {
     let index = index_of(rt.alloc(), &TERTIARY, &[])?;
-    assert_holds(&rt, index.is_empty());
-    assert_same(&rt, index.len(), 0);
-    assert_holds(&rt, lists(&index, &[]));
+    assert!(rt; index.is_empty());
+    assert_same!(rt; index.len(), 0);
+    assert!(rt; lists(&index, &[]));
     Ok(())
 }
 
@@ -94,13 +94,13 @@ fn ok_with_seed(rt: HostRuntime) -> Result<(), Fail> {
     for seed in [0, FIXED_SEED, u64::MAX] {
         let records = Records::read(alloc, LETTERS)?;
         let mut index = Index::with_seed(alloc, records, &PREFERENCES, &PRIMARY, seed)?;
-        assert_holds(&rt, index.add(b"ch").is_ok());
-        assert_holds(&rt, index.add(b"ab").is_ok());
-        assert_holds(&rt, matches!(index.add(b"ch"), Err(AddError::Duplicate)));
-        assert_holds(&rt, lists(&index, &[b"ab", b"ch"]));
-        assert_same(&rt, index.remove(b"ch"), Ok(()));
-        assert_same(&rt, index.remove(b"ch"), Err(Absent));
-        assert_holds(&rt, lists(&index, &[b"ab"]));
+        assert!(rt; index.add(b"ch").is_ok());
+        assert!(rt; index.add(b"ab").is_ok());
+        assert!(rt; matches!(index.add(b"ch"), Err(AddError::Duplicate)));
+        assert!(rt; lists(&index, &[b"ab", b"ch"]));
+        assert_same!(rt; index.remove(b"ch"), Ok(()));
+        assert_same!(rt; index.remove(b"ch"), Err(Absent));
+        assert!(rt; lists(&index, &[b"ab"]));
     }
     Ok(())
 }
@@ -108,15 +108,12 @@ fn ok_with_seed(rt: HostRuntime) -> Result<(), Fail> {
 #[test]
 fn ok_add(rt: HostRuntime) -> Result<(), Fail> {
     let mut index = index_of(rt.alloc(), &PRIMARY, &[b"ch", b"cl", b"ab"])?;
-    assert_holds(&rt, lists(&index, &[b"ab", b"ch", b"cl"]));
-    assert_holds(&rt, matches!(index.add(b"ab"), Err(AddError::Duplicate)));
+    assert!(rt; lists(&index, &[b"ab", b"ch", b"cl"]));
+    assert!(rt; matches!(index.add(b"ab"), Err(AddError::Duplicate)));
     // equal at this strength, and another name
-    assert_holds(&rt, index.add("\u{e1}b".as_bytes()).is_ok());
-    assert_same(&rt, index.len(), 4);
-    assert_holds(
-        &rt,
-        lists(&index, &[b"ab", "\u{e1}b".as_bytes(), b"ch", b"cl"]),
-    );
+    assert!(rt; index.add("\u{e1}b".as_bytes()).is_ok());
+    assert_same!(rt; index.len(), 4);
+    assert!(rt; lists(&index, &[b"ab", "\u{e1}b".as_bytes(), b"ch", b"cl"]));
     Ok(())
 }
 
@@ -124,11 +121,11 @@ fn ok_add(rt: HostRuntime) -> Result<(), Fail> {
 fn a_removed_name_arrives_anew(rt: HostRuntime) -> Result<(), Fail> {
     let acute = "\u{e1}".as_bytes();
     let mut index = index_of(rt.alloc(), &PRIMARY, &[b"a", acute, b"b"])?;
-    assert_same(&rt, index.remove(b"a"), Ok(()));
-    assert_same(&rt, index.remove(b"a"), Err(Absent));
-    assert_holds(&rt, lists(&index, &[acute, b"b"]));
-    assert_holds(&rt, index.add(b"a").is_ok());
-    assert_holds(&rt, lists(&index, &[acute, b"a", b"b"]));
+    assert_same!(rt; index.remove(b"a"), Ok(()));
+    assert_same!(rt; index.remove(b"a"), Err(Absent));
+    assert!(rt; lists(&index, &[acute, b"b"]));
+    assert!(rt; index.add(b"a").is_ok());
+    assert!(rt; lists(&index, &[acute, b"a", b"b"]));
     Ok(())
 }
 
@@ -140,7 +137,7 @@ fn assert_found(
     places: Range<usize>,
 ) -> Result<(), Fail> {
     let found = index.find(name)?;
-    assert_same(rt, found.names, places);
+    assert_same!(rt; found.names, places);
     Ok(())
 }
 
@@ -148,7 +145,7 @@ fn assert_found(
 fn ok_find(rt: HostRuntime) -> Result<(), Fail> {
     let acute = "\u{e1}".as_bytes();
     let index = index_of(rt.alloc(), &PRIMARY, &[b"b", acute, b"a"])?;
-    assert_holds(&rt, lists(&index, &[acute, b"a", b"b"]));
+    assert!(rt; lists(&index, &[acute, b"a", b"b"]));
     assert_found(&rt, &index, b"a", 0..2)
 }
 
@@ -156,18 +153,18 @@ fn ok_find(rt: HostRuntime) -> Result<(), Fail> {
 fn few_comparisons_find_a_name(rt: HostRuntime) -> Result<(), Fail> {
     let index = index_of(rt.alloc(), &PRIMARY, &[b"b", b"c", b"a", b"h", b"l"])?;
     let found = index.find(b"a")?;
-    assert_holds_in(&rt, &"five has three binary digits", found.comparisons <= 6);
+    assert!(rt; found.comparisons <= 6, "five has three binary digits");
     let empty = index_of(rt.alloc(), &PRIMARY, &[])?;
-    assert_same(&rt, empty.find(b"a")?.comparisons, 0);
+    assert_same!(rt; empty.find(b"a")?.comparisons, 0);
     Ok(())
 }
 
 #[test]
 fn ok_between(rt: HostRuntime) -> Result<(), Fail> {
     let index = index_of(rt.alloc(), &PRIMARY, &[b"ch", b"cl", b"ab"])?;
-    assert_same(&rt, index.between(b"a", b"ch")?, 0..2);
-    assert_same(&rt, index.between(b"ch", b"a")?, 0..0);
-    assert_same(&rt, index.between(b"cl", b"cl")?, 2..3);
+    assert_same!(rt; index.between(b"a", b"ch")?, 0..2);
+    assert_same!(rt; index.between(b"ch", b"a")?, 0..0);
+    assert_same!(rt; index.between(b"cl", b"cl")?, 2..3);
     Ok(())
 }
 
@@ -175,7 +172,7 @@ fn ok_between(rt: HostRuntime) -> Result<(), Fail> {
 fn accents_count_at_tertiary(rt: HostRuntime) -> Result<(), Fail> {
     let acute = "\u{e1}".as_bytes();
     let index = index_of(rt.alloc(), &TERTIARY, &[b"b", acute, b"a"])?;
-    assert_holds(&rt, lists(&index, &[b"a", acute, b"b"]));
+    assert!(rt; lists(&index, &[b"a", acute, b"b"]));
     assert_found(&rt, &index, "a\u{301}".as_bytes(), 1..2)?;
     assert_found(&rt, &index, b"c", 0..0)
 }
@@ -193,7 +190,7 @@ fn holds(index: &Index, names: &[&[u8]]) -> bool {
 #[test]
 fn ok_get(rt: HostRuntime) -> Result<(), Fail> {
     let index = index_of(rt.alloc(), &TERTIARY, &[b"t", b"a\xff"])?;
-    assert_holds(&rt, holds(&index, &[b"a\xff", b"t"]));
+    assert!(rt; holds(&index, &[b"a\xff", b"t"]));
     assert_found(&rt, &index, b"a\xef\xbf\xbd", 0..1)
 }
 
@@ -247,7 +244,7 @@ fn an_index_takes_all_records_and_options(rt: HostRuntime) -> Result<(), Fail> {
     let names: [&[u8]; 8] = [b"ch", b"h", b"d", b"a12", b"a 2", b"a2", ideograph, b"c"];
     let index = whole_index_of(rt.alloc(), &names)?;
     let sorted: [&[u8]; 8] = [b"a 2", b"a2", b"a12", b"d", b"c", b"h", b"ch", ideograph];
-    assert_holds(&rt, holds(&index, &sorted));
+    assert!(rt; holds(&index, &sorted));
     Ok(())
 }
 
@@ -272,10 +269,7 @@ fn ok_make(rt: HostRuntime) -> Result<(), Fail> {
         (circumflex, acute, Ordering::Greater),
         (acute, acute, Ordering::Equal),
     ] {
-        assert_holds(
-            &rt,
-            compared(rt.alloc(), first, second)? == (ordering, 2, 1),
-        );
+        assert!(rt; compared(rt.alloc(), first, second)? == (ordering, 2, 1));
     }
     Ok(())
 }
@@ -288,10 +282,6 @@ fn ok_collator_of(rt: HostRuntime) -> Result<(), Fail> {
     collator
         .as_borrowed()
         .write_sort_key_to(rt.alloc(), "a", &mut key)?;
-    assert_same(
-        &rt,
-        key.as_slice(),
-        b"\x2a\x10\x01\x05\x01\x01\x05\x01".as_slice(),
-    );
+    assert_same!(rt; key.as_slice(), b"\x2a\x10\x01\x05\x01\x01\x05\x01".as_slice());
     Ok(())
 }

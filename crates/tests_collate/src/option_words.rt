@@ -28,8 +28,8 @@ fn each_strength_and_variable_has_a_word(rt: HostRuntime) -> Result<(), Fail> {
     ];
     for (word, strength) in strengths {
         let options = options_by(rt.alloc(), word)?;
-        assert_same(&rt, options.strength, Some(strength));
-        assert_same(&rt, options.max_variable, None);
+        assert_same!(rt; options.strength, Some(strength));
+        assert_same!(rt; options.max_variable, None);
     }
     let variables = [
         ("maxvariable=space", MaxVariable::Space),
@@ -39,8 +39,8 @@ fn each_strength_and_variable_has_a_word(rt: HostRuntime) -> Result<(), Fail> {
     ];
     for (word, variable) in variables {
         let options = options_by(rt.alloc(), word)?;
-        assert_same(&rt, options.max_variable, Some(variable));
-        assert_same(&rt, options.strength, None);
+        assert_same!(rt; options.max_variable, Some(variable));
+        assert_same!(rt; options.strength, None);
     }
     Ok(())
 }
@@ -53,14 +53,14 @@ fn each_handling_and_case_level_has_a_word(rt: HostRuntime) -> Result<(), Fail> 
     ];
     for (word, handling) in handlings {
         let options = options_by(rt.alloc(), word)?;
-        assert_same(&rt, options.alternate_handling, Some(handling));
+        assert_same!(rt; options.alternate_handling, Some(handling));
     }
     for (word, level) in [
         ("caselevel=off", CaseLevel::Off),
         ("caselevel=on", CaseLevel::On),
     ] {
         let options = options_by(rt.alloc(), word)?;
-        assert_same(&rt, options.case_level, Some(level));
+        assert_same!(rt; options.case_level, Some(level));
     }
     Ok(())
 }
@@ -75,7 +75,7 @@ fn each_case_and_ordering_has_a_word(rt: HostRuntime) -> Result<(), Fail> {
     for (word, case) in cases {
         let words = words_of(rt.alloc(), &["a.records", word])?;
         let choice = Choice::read(&words).ok_or("no choice")?;
-        assert_same(&rt, choice.prefs.case_first, Some(case));
+        assert_same!(rt; choice.prefs.case_first, Some(case));
     }
     let orderings = [
         ("numeric=off", CollationNumericOrdering::False),
@@ -84,7 +84,7 @@ fn each_case_and_ordering_has_a_word(rt: HostRuntime) -> Result<(), Fail> {
     for (word, ordering) in orderings {
         let words = words_of(rt.alloc(), &["a.records", word])?;
         let choice = Choice::read(&words).ok_or("no choice")?;
-        assert_same(&rt, choice.prefs.numeric_ordering, Some(ordering));
+        assert_same!(rt; choice.prefs.numeric_ordering, Some(ordering));
     }
     Ok(())
 }

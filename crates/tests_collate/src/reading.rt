@@ -1,7 +1,7 @@
 //! Lines read one at a time.
 
 use crate::failing::FailingReader;
-use assertions::{assert_holds, assert_same};
+use assertions::assert_same;
 use collate_merge::lines::{LineReader, ReadLineError};
 use std::io::{BufReader, ErrorKind};
 use std::test::Fail;
@@ -11,13 +11,13 @@ fn ok_next(rt: HostRuntime) -> Result<(), Fail> {
     let bytes: &[u8] = b"ab;;c";
     let mut lines = LineReader::new(bytes, b';');
     let mut line = Vec::new(rt.alloc());
-    assert_holds(&rt, lines.next(&mut line)?);
-    assert_same(&rt, line.as_slice(), b"ab".as_slice());
-    assert_holds(&rt, lines.next(&mut line)?);
-    assert_same(&rt, line.as_slice(), b"".as_slice());
-    assert_holds(&rt, lines.next(&mut line)?);
-    assert_same(&rt, line.as_slice(), b"c".as_slice());
-    assert_holds(&rt, !lines.next(&mut line)?);
+    assert!(rt; lines.next(&mut line)?);
+    assert_same!(rt; line.as_slice(), b"ab".as_slice());
+    assert!(rt; lines.next(&mut line)?);
+    assert_same!(rt; line.as_slice(), b"".as_slice());
+    assert!(rt; lines.next(&mut line)?);
+    assert_same!(rt; line.as_slice(), b"c".as_slice());
+    assert!(rt; !lines.next(&mut line)?);
     Ok(())
 }
 
@@ -31,11 +31,8 @@ fn fault_in_a_line_is_told(rt: HostRuntime) -> Result<(), Fail> {
     };
     let mut lines = LineReader::new(BufReader::new(rt.alloc(), reader)?, b'\n');
     let mut line = Vec::new(rt.alloc());
-    assert_holds(&rt, lines.next(&mut line)?);
-    assert_holds(
-        &rt,
-        matches!(lines.next(&mut line), Err(ReadLineError::Read(_))),
-    );
-    assert_same(&rt, line.as_slice(), b"cd".as_slice());
+    assert!(rt; lines.next(&mut line)?);
+    assert!(rt; matches!(lines.next(&mut line), Err(ReadLineError::Read(_))));
+    assert_same!(rt; line.as_slice(), b"cd".as_slice());
     Ok(())
 }

@@ -2,7 +2,7 @@
 //! independent reading of the file format.
 
 use crate::names::{LETTERS, PREFERENCES, PRIMARY, index_of, lists};
-use assertions::{assert_holds, assert_same};
+use assertions::assert_same;
 use collate_index::index::ReloadError;
 use collate_records::records::Records;
 use collate_records::rule::{RecordFault, Rule};
@@ -27,23 +27,19 @@ pub(crate) fn joined(alloc: Global, texts: &[&[u8]]) -> Result<Vec<u8>, AllocErr
 fn ok_reload(rt: HostRuntime) -> Result<(), Fail> {
     let alloc = rt.alloc();
     let mut index = index_of(alloc, &PRIMARY, &[b"ch", b"cl", b"ab"])?;
-    assert_holds(&rt, lists(&index, &[b"ab", b"ch", b"cl"]));
+    assert!(rt; lists(&index, &[b"ab", b"ch", b"cl"]));
     let changed = joined(alloc, &[LETTERS, CH])?;
-    assert_same(&rt, index.reload(&changed), Ok(2));
-    assert_holds(&rt, lists(&index, &[b"ab", b"cl", b"ch"]));
+    assert_same!(rt; index.reload(&changed), Ok(2));
+    assert!(rt; lists(&index, &[b"ab", b"cl", b"ch"]));
     let fault = RecordFault {
         line: 1,
         rule: Rule::Grammar,
     };
-    assert_same(
-        &rt,
-        index.reload(b"w 61 ;\n"),
-        Err(ReloadError::Record(fault)),
-    );
-    assert_holds(&rt, lists(&index, &[b"ab", b"cl", b"ch"]));
+    assert_same!(rt; index.reload(b"w 61 ;\n"), Err(ReloadError::Record(fault)));
+    assert!(rt; lists(&index, &[b"ab", b"cl", b"ch"]));
     let set = joined(alloc, &[LETTERS, CH, b"set backward on\n"])?;
-    assert_same(&rt, index.reload(&set), Ok(3));
-    assert_same(&rt, index.reload(&set), Ok(0));
+    assert_same!(rt; index.reload(&set), Ok(3));
+    assert_same!(rt; index.reload(&set), Ok(0));
     Ok(())
 }
 
@@ -103,8 +99,8 @@ fn a_reload_changes_the_order_of_names(rt: HostRuntime) -> Result<(), Fail> {
     ];
     for (commands, replies, end) in rows {
         let (text, result) = ran(alloc, LETTERS, commands)?;
-        assert_same(&rt, text.as_slice(), replies);
-        assert_same(&rt, result, end);
+        assert_same!(rt; text.as_slice(), replies);
+        assert_same!(rt; result, end);
     }
     Ok(())
 }
@@ -132,8 +128,8 @@ fn a_reload_takes_the_lines_behind_it(rt: HostRuntime) -> Result<(), Fail> {
     ];
     for (commands, replies, end) in rows {
         let (text, result) = ran(alloc, LETTERS, &[commands])?;
-        assert_same(&rt, text.as_slice(), replies);
-        assert_same(&rt, result, end);
+        assert_same!(rt; text.as_slice(), replies);
+        assert_same!(rt; result, end);
     }
     Ok(())
 }
@@ -144,15 +140,11 @@ fn a_record_line_may_be_as_long_as_a_command(rt: HostRuntime) -> Result<(), Fail
     let longest = vec![in alloc; b'x'; 65_536]?;
     let commands: [&[u8]; 3] = [b"reload 1\n", &longest, b"\nlist\n"];
     let (text, result) = ran(alloc, LETTERS, &commands)?;
-    assert_same(
-        &rt,
-        text.as_slice(),
-        b"refused 1 grammar\nnames 0\n".as_slice(),
-    );
-    assert_same(&rt, result, Ok(()));
+    assert_same!(rt; text.as_slice(), b"refused 1 grammar\nnames 0\n".as_slice());
+    assert_same!(rt; result, Ok(()));
     let commands: [&[u8]; 3] = [b"reload 2\n", &longest, b"x"];
     let (text, result) = ran(alloc, LETTERS, &commands)?;
-    assert_same(&rt, text.as_slice(), b"".as_slice());
-    assert_same(&rt, result, Err(RunFault::LineTooLong));
+    assert_same!(rt; text.as_slice(), b"".as_slice());
+    assert_same!(rt; result, Err(RunFault::LineTooLong));
     Ok(())
 }

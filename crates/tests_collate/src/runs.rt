@@ -2,7 +2,7 @@
 
 use crate::commands::words_of;
 use crate::failing::{FailingReader, FailingWriter, Failure};
-use assertions::{assert_holds, assert_same, assert_same_in};
+use assertions::assert_same;
 use collate_index::index::{Absent, AddError, ReloadError};
 use collate_records::records::Records;
 use collate_run::choice::Choice;
@@ -59,8 +59,8 @@ where
         &mut reader,
         &mut writer,
     );
-    assert_same(rt, reader.failed(), result == Err(RunFault::Read));
-    assert_same(rt, writer.failed(), result == Err(RunFault::Write));
+    assert_same!(rt; reader.failed(), result == Err(RunFault::Read));
+    assert_same!(rt; writer.failed(), result == Err(RunFault::Write));
     result
 }
 
@@ -69,8 +69,8 @@ fn ok_run(rt: HostRuntime) {
     let alloc = rt.alloc();
     let mut written = Vec::new(alloc);
     let result = run_over_nothing(&rt, alloc, TEXT, &mut written);
-    assert_same(&rt, result, Ok(()));
-    assert_same(&rt, written.as_slice(), REPLIES);
+    assert_same!(rt; result, Ok(()));
+    assert_same!(rt; written.as_slice(), REPLIES);
 }
 
 #[test]
@@ -89,8 +89,8 @@ fn ok_run_with_seed(rt: HostRuntime) -> Result<(), Fail> {
         &mut reader,
         &mut writer,
     );
-    assert_same(&rt, result, Ok(()));
-    assert_same(&rt, written.as_slice(), REPLIES);
+    assert_same!(rt; result, Ok(()));
+    assert_same!(rt; written.as_slice(), REPLIES);
     Ok(())
 }
 
@@ -122,8 +122,8 @@ fn run_ends_where_a_read_fails(rt: HostRuntime) {
                 kind,
             };
             let result = run_over_nothing(&rt, alloc, reader, &mut written);
-            assert_same_in(&rt, &calls, result, Err(RunFault::Read));
-            assert_same_in(&rt, &calls, Some(written.as_slice()), REPLIES.get(..bytes));
+            assert_same!(rt; result, Err(RunFault::Read); calls);
+            assert_same!(rt; Some(written.as_slice()), REPLIES.get(..bytes); calls);
         }
     }
 }
@@ -147,8 +147,8 @@ fn run_ends_where_a_write_fails(rt: HostRuntime) {
                 failure,
             };
             let result = run_over_nothing(&rt, alloc, TEXT, writer);
-            assert_same_in(&rt, &calls, result, Err(RunFault::Write));
-            assert_same_in(&rt, &calls, Some(written.as_slice()), REPLIES.get(..bytes));
+            assert_same!(rt; result, Err(RunFault::Write); calls);
+            assert_same!(rt; Some(written.as_slice()), REPLIES.get(..bytes); calls);
         }
     }
 }
@@ -162,12 +162,12 @@ fn run_ends_at_a_long_line(rt: HostRuntime) -> Result<(), Fail> {
     text.extend_from_slice(&vec![in alloc; b'x'; 65_537]?)?;
     let mut written = Vec::new(alloc);
     let result = run_over_nothing(&rt, alloc, text.as_slice(), &mut written);
-    assert_same(&rt, result, Err(RunFault::LineTooLong));
-    assert_same(&rt, written.as_slice(), b"bad\n".as_slice());
+    assert_same!(rt; result, Err(RunFault::LineTooLong));
+    assert_same!(rt; written.as_slice(), b"bad\n".as_slice());
     written.clear();
     let result = run_over_nothing(&rt, alloc, text.get(..longest).unwrap_or(b""), &mut written);
-    assert_same(&rt, result, Ok(()));
-    assert_same(&rt, written.as_slice(), b"bad\n".as_slice());
+    assert_same!(rt; result, Ok(()));
+    assert_same!(rt; written.as_slice(), b"bad\n".as_slice());
     Ok(())
 }
 
@@ -197,8 +197,8 @@ fn assert_served(
         failure: Failure::NoByte,
     });
     let status = serve::serve(alloc, choice, file, &mut reader, &mut writer, &mut errors);
-    assert_same(rt, status, wanted.0);
-    assert_same(rt, errors.as_slice(), wanted.1);
+    assert_same!(rt; status, wanted.0);
+    assert_same!(rt; errors.as_slice(), wanted.1);
 }
 
 #[test]
@@ -218,9 +218,9 @@ fn ok_serve(rt: HostRuntime) -> Result<(), Fail> {
         &mut writer,
         &mut errors,
     );
-    assert_same(&rt, status, 0);
-    assert_same(&rt, written.as_slice(), REPLIES);
-    assert_same(&rt, errors.as_slice(), b"".as_slice());
+    assert_same!(rt; status, 0);
+    assert_same!(rt; written.as_slice(), REPLIES);
+    assert_same!(rt; errors.as_slice(), b"".as_slice());
     Ok(())
 }
 
@@ -278,9 +278,9 @@ fn serve_drops_an_error_of_the_writer_of_errors(rt: HostRuntime) {
     let mut writer = Watched::new(&mut written);
     let file = Err(FileFault::Unreadable);
     let status = serve::serve(alloc, None, file, &mut reader, &mut writer, &mut errors);
-    assert_same(&rt, status, 2);
-    assert_same(&rt, told.as_slice(), b"usage: c".as_slice());
-    assert_same(&rt, written.as_slice(), b"".as_slice());
+    assert_same!(rt; status, 2);
+    assert_same!(rt; told.as_slice(), b"usage: c".as_slice());
+    assert_same!(rt; written.as_slice(), b"".as_slice());
 }
 
 #[test]
@@ -296,7 +296,7 @@ fn each_fault_of_a_run_has_its_line(rt: HostRuntime) {
     for (fault, line) in rows {
         let mut errors = Vec::new(rt.alloc());
         serve::tell_run_fault(&mut errors, fault);
-        assert_same(&rt, errors.as_slice(), line);
+        assert_same!(rt; errors.as_slice(), line);
     }
 }
 
@@ -309,22 +309,22 @@ fn shows<D: Display + Drop>(alloc: Global, value: D, text: &str) -> Result<bool,
 #[test]
 fn errors_say_what_is_at_fault(rt: HostRuntime) -> Result<(), Fail> {
     let alloc = rt.alloc();
-    assert_holds(&rt, shows(alloc, RunFault::Memory, "out of memory")?);
-    assert_holds(&rt, shows(alloc, RunFault::Read, "a read failed")?);
-    assert_holds(&rt, shows(alloc, RunFault::Write, "a write failed")?);
+    assert!(rt; shows(alloc, RunFault::Memory, "out of memory")?);
+    assert!(rt; shows(alloc, RunFault::Read, "a read failed")?);
+    assert!(rt; shows(alloc, RunFault::Write, "a write failed")?);
     let line = "a line has more than 65,536 bytes";
-    assert_holds(&rt, shows(alloc, RunFault::LineTooLong, line)?);
+    assert!(rt; shows(alloc, RunFault::LineTooLong, line)?);
     let input = "the input has more than 4,294,967,295 bytes";
-    assert_holds(&rt, shows(alloc, RunFault::InputTooLong, input)?);
+    assert!(rt; shows(alloc, RunFault::InputTooLong, input)?);
     let cut = "the input ends within a reload";
-    assert_holds(&rt, shows(alloc, RunFault::CutReload, cut)?);
+    assert!(rt; shows(alloc, RunFault::CutReload, cut)?);
     let file = "the file can't be opened or read";
-    assert_holds(&rt, shows(alloc, FileFault::Unreadable, file)?);
-    assert_holds(&rt, shows(alloc, FileFault::Memory, "out of memory")?);
+    assert!(rt; shows(alloc, FileFault::Unreadable, file)?);
+    assert!(rt; shows(alloc, FileFault::Memory, "out of memory")?);
     let duplicate = "the name is already in the index";
-    assert_holds(&rt, shows(alloc, AddError::Duplicate, duplicate)?);
-    assert_holds(&rt, shows(alloc, AddError::Memory, "out of memory")?);
-    assert_holds(&rt, shows(alloc, Absent, "the name is not in the index")?);
-    assert_holds(&rt, shows(alloc, ReloadError::Memory, "out of memory")?);
+    assert!(rt; shows(alloc, AddError::Duplicate, duplicate)?);
+    assert!(rt; shows(alloc, AddError::Memory, "out of memory")?);
+    assert!(rt; shows(alloc, Absent, "the name is not in the index")?);
+    assert!(rt; shows(alloc, ReloadError::Memory, "out of memory")?);
     Ok(())
 }

@@ -1,6 +1,6 @@
 //! Places with their fronts are put in, taken out and lent in parts, few and many.
 
-use assertions::{assert_holds, assert_holds_in, assert_same};
+use assertions::assert_same;
 use collate_lists::fronts::Front;
 use collate_lists::slot_list::SlotList;
 use collate_lists::windows::FrontedSlot;
@@ -34,17 +34,17 @@ fn is_slot(found: Option<FrontedSlot>, slot: usize) -> bool {
 #[test]
 fn ok_insert(rt: HostRuntime) -> Result<(), Fail> {
     let mut list = SlotList::new(rt.alloc());
-    assert_holds(&rt, list.is_empty());
+    assert!(rt; list.is_empty());
     list.insert(0, placed(7))?;
     list.insert(0, placed(5))?;
     list.insert(1, placed(6))?;
-    assert_same(&rt, list.len(), 3);
-    assert_holds(&rt, is_slot(list.at(0), 5));
-    assert_holds(&rt, is_slot(list.at(1), 6));
-    assert_holds(&rt, is_slot(list.at(2), 7));
-    assert_holds(&rt, list.at(3).is_none());
-    assert_holds(&rt, is_slot(Some(list.remove(1)), 6));
-    assert_holds(&rt, is_slot(list.at(1), 7));
+    assert_same!(rt; list.len(), 3);
+    assert!(rt; is_slot(list.at(0), 5));
+    assert!(rt; is_slot(list.at(1), 6));
+    assert!(rt; is_slot(list.at(2), 7));
+    assert!(rt; list.at(3).is_none());
+    assert!(rt; is_slot(Some(list.remove(1)), 6));
+    assert!(rt; is_slot(list.at(1), 7));
     Ok(())
 }
 
@@ -123,47 +123,46 @@ fn ok_push(rt: HostRuntime) -> Result<(), Fail> {
         list.push(placed(slot))?;
         plain.push(slot)?;
     }
-    assert_holds(&rt, are_same(&list, plain.as_slice()));
-    assert_same(&rt, count_parts(&list), 4);
+    assert!(rt; are_same(&list, plain.as_slice()));
+    assert_same!(rt; count_parts(&list), 4);
     Ok(())
 }
 
 #[test]
 fn lists_are_split_and_let_go(rt: HostRuntime) -> Result<(), Fail> {
     let (mut list, mut plain) = put_in(rt.alloc(), 3000)?;
-    assert_holds(&rt, are_same(&list, &plain));
-    assert_holds(&rt, take_out(&mut list, &mut plain, 2900));
-    assert_same(&rt, list.len(), 100);
-    assert_holds(&rt, are_same(&list, &plain));
-    assert_holds(&rt, take_out(&mut list, &mut plain, 100));
-    assert_holds(&rt, list.is_empty());
+    assert!(rt; are_same(&list, &plain));
+    assert!(rt; take_out(&mut list, &mut plain, 2900));
+    assert_same!(rt; list.len(), 100);
+    assert!(rt; are_same(&list, &plain));
+    assert!(rt; take_out(&mut list, &mut plain, 100));
+    assert!(rt; list.is_empty());
     Ok(())
 }
 
 #[test]
 fn parts_are_joined(rt: HostRuntime) -> Result<(), Fail> {
     let (mut list, mut plain) = put_in(rt.alloc(), 60_000)?;
-    assert_holds_in(&rt, &"more than a block of ranks", count_parts(&list) > 128);
-    assert_holds(&rt, are_same(&list, &plain));
-    assert_holds(&rt, take_out(&mut list, &mut plain, 59_000));
-    assert_holds_in(
-        &rt,
-        &"1,000 slots, two parts hold 385 at least",
+    assert!(rt; count_parts(&list) > 128, "more than a block of ranks");
+    assert!(rt; are_same(&list, &plain));
+    assert!(rt; take_out(&mut list, &mut plain, 59_000));
+    assert!(rt;
         count_parts(&list) < 7,
+        "1,000 slots, two parts hold 385 at least"
     );
-    assert_holds(&rt, are_same(&list, &plain));
-    assert_holds(&rt, 500 <= list.len());
+    assert!(rt; are_same(&list, &plain));
+    assert!(rt; 500 <= list.len());
     list.insert(500, placed(9))?;
-    assert_holds(&rt, is_slot(list.at(500), 9));
+    assert!(rt; is_slot(list.at(500), 9));
     Ok(())
 }
 
 #[test]
 fn parts_are_lent(rt: HostRuntime) -> Result<(), Fail> {
     let (list, plain) = put_in(rt.alloc(), 3000)?;
-    assert_holds(&rt, are_lent(&list, &plain, 0, usize::MAX));
-    assert_holds(&rt, are_lent(&list, &plain, 3, 5));
-    assert_holds(&rt, are_lent(&list, &plain, 7, 2));
+    assert!(rt; are_lent(&list, &plain, 0, usize::MAX));
+    assert!(rt; are_lent(&list, &plain, 3, 5));
+    assert!(rt; are_lent(&list, &plain, 7, 2));
     Ok(())
 }
 
@@ -171,13 +170,13 @@ fn parts_are_lent(rt: HostRuntime) -> Result<(), Fail> {
 fn fronts_compare_as_bytes(rt: HostRuntime) -> Result<(), Fail> {
     let mut count = 0;
     let ordering = Front::new(b"ab").compare(&Front::new(b"b"), &mut count);
-    assert_same(&rt, ordering, Ordering::Less);
-    assert_same(&rt, count, 1);
+    assert_same!(rt; ordering, Ordering::Less);
+    assert_same!(rt; count, 1);
     let ordering = Front::new(b"ab\x00c").compare(&Front::new(b"ab"), &mut count);
-    assert_same(&rt, ordering, Ordering::Greater);
-    assert_same(&rt, count, 2);
+    assert_same!(rt; ordering, Ordering::Greater);
+    assert_same!(rt; count, 2);
     let ordering = Front::new(b"abcdefghi").compare(&Front::new(b"abcdefghj"), &mut count);
-    assert_same(&rt, ordering, Ordering::Equal);
-    assert_same(&rt, count, 2);
+    assert_same!(rt; ordering, Ordering::Equal);
+    assert_same!(rt; count, 2);
     Ok(())
 }

@@ -1,7 +1,7 @@
 //! Lines put in order, and looked through.
 
 use crate::letters::{NAMES, order_of};
-use assertions::{assert_holds, assert_same};
+use assertions::assert_same;
 use collate_sort::Direction;
 use collate_sort::list::LineList;
 use collate_sort::order::LineOrder;
@@ -34,14 +34,14 @@ fn holds(list: &LineList<'_>, expected: &[&[u8]]) -> bool {
 fn ok_add(rt: HostRuntime) -> Result<(), Fail> {
     let order = order_of(rt.alloc(), Direction::Ascending)?;
     let mut list = LineList::new(rt.alloc(), &order);
-    assert_holds(&rt, list.is_empty());
-    assert_same(&rt, list.held(), 0);
+    assert!(rt; list.is_empty());
+    assert_same!(rt; list.held(), 0);
     list.add(b"co", None)?;
     list.add(b"1 co", Some(b"ab"))?;
-    assert_holds(&rt, holds(&list, &[b"co", b"1 co"]));
-    assert_holds(&rt, list.held() > 0);
+    assert!(rt; holds(&list, &[b"co", b"1 co"]));
+    assert!(rt; list.held() > 0);
     list.clear();
-    assert_holds(&rt, list.is_empty());
+    assert!(rt; list.is_empty());
     Ok(())
 }
 
@@ -67,7 +67,7 @@ fn ok_sort(rt: HostRuntime) -> Result<(), Fail> {
         b"co",
         b"tb",
     ];
-    assert_holds(&rt, holds(&list, &expected));
+    assert!(rt; holds(&list, &expected));
     Ok(())
 }
 
@@ -93,7 +93,7 @@ fn equal_lines_stay_where_the_greatest_is_first(rt: HostRuntime) -> Result<(), F
         b"ab",
         b"",
     ];
-    assert_holds(&rt, holds(&list, &expected));
+    assert!(rt; holds(&list, &expected));
     Ok(())
 }
 
@@ -115,7 +115,7 @@ fn ok_sort_unique(rt: HostRuntime) -> Result<(), Fail> {
         b"co",
         b"tb",
     ];
-    assert_holds(&rt, holds(&list, &expected));
+    assert!(rt; holds(&list, &expected));
     Ok(())
 }
 
@@ -126,10 +126,10 @@ fn first_unordered_is_found(rt: HostRuntime) -> Result<(), Fail> {
     list.add(b"ab", None)?;
     list.add(b"b\xC3\xA1", None)?;
     list.add(b"ba\xCC\x81", None)?;
-    assert_same(&rt, list.first_unordered(false), None);
-    assert_same(&rt, list.first_unordered(true), Some(2));
+    assert_same!(rt; list.first_unordered(false), None);
+    assert_same!(rt; list.first_unordered(true), Some(2));
     list.add(b"ba", None)?;
-    assert_same(&rt, list.first_unordered(false), Some(3));
+    assert_same!(rt; list.first_unordered(false), Some(3));
     Ok(())
 }
 
@@ -141,9 +141,9 @@ fn ok_write_key(rt: HostRuntime) -> Result<(), Fail> {
     list.add(b"x", Some(b"ba\xCC\x81"))?;
     let mut key = Vec::new(rt.alloc());
     order.write_key(b"b\xC3\xA1", &mut key)?;
-    assert_same(&rt, list.key(0), Some(key.as_slice()));
-    assert_same(&rt, list.key(1), Some(key.as_slice()));
-    assert_same(&rt, list.key(2), None);
-    assert_holds(&rt, order.direction() == Direction::Ascending);
+    assert_same!(rt; list.key(0), Some(key.as_slice()));
+    assert_same!(rt; list.key(1), Some(key.as_slice()));
+    assert_same!(rt; list.key(2), None);
+    assert!(rt; order.direction() == Direction::Ascending);
     Ok(())
 }

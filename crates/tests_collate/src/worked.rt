@@ -4,7 +4,7 @@
 use crate::failing::{FailingReader, FailingWriter, Failure};
 use crate::names::{LETTERS, PREFERENCES, PRIMARY};
 use crate::reloads::{CH, joined};
-use assertions::{assert_holds, assert_holds_in, assert_same_in};
+use assertions::assert_same;
 use collate_records::records::Records;
 use collate_run::run::{self, RunFault};
 use collate_run::watched::Watched;
@@ -103,9 +103,9 @@ fn assert_reads(
     } else {
         RunFault::Read
     };
-    assert_same_in(rt, &(most, calls), end, Err(wanted));
+    assert_same!(rt; end, Err(wanted); (most, calls));
     let replies = replies_within(alloc, bytes)?;
-    assert_same_in(rt, &(most, calls), written.as_slice(), replies.as_slice());
+    assert_same!(rt; written.as_slice(), replies.as_slice(); (most, calls));
     Ok(())
 }
 
@@ -140,16 +140,19 @@ fn wrote_all(
     };
     let end = ended(alloc, text, writer)?;
     let replies = replies_within(alloc, text.len())?;
-    assert_holds_in(rt, &(most, calls), replies.starts_with(&written));
-    assert_holds(rt, written.len() >= calls.min(replies.len()));
-    assert_holds(rt, written.len() <= calls.saturating_mul(most));
+    assert!(rt;
+        replies.starts_with(&written),
+        "{most} bytes a call, after {calls}"
+    );
+    assert!(rt; written.len() >= calls.min(replies.len()));
+    assert!(rt; written.len() <= calls.saturating_mul(most));
     let is_whole = written.len() == replies.len();
     let wanted = if is_whole {
         RunFault::CutReload
     } else {
         RunFault::Write
     };
-    assert_same_in(rt, &(most, calls), end, Err(wanted));
+    assert_same!(rt; end, Err(wanted); (most, calls));
     Ok(is_whole)
 }
 

@@ -1,6 +1,5 @@
 //! What two files say differently.
 
-use assertions::assert_holds;
 use collate_records::differences::Differences;
 use collate_records::records::Records;
 use std::test::Fail;
@@ -24,10 +23,10 @@ w 0061 ; [2A300000.0500.0.0500.0]
 fn ok_changed(rt: HostRuntime) -> Result<(), Fail> {
     let before = Records::read(rt.alloc(), BEFORE)?;
     let after = Records::read(rt.alloc(), AFTER)?;
-    assert_holds(&rt, before.changed(&after, 'a'));
-    assert_holds(&rt, !before.changed(&after, 'b'));
-    assert_holds(&rt, !before.changed(&after, 'á'));
-    assert_holds(&rt, before.settings_equal(&after));
+    assert!(rt; before.changed(&after, 'a'));
+    assert!(rt; !before.changed(&after, 'b'));
+    assert!(rt; !before.changed(&after, 'á'));
+    assert!(rt; before.settings_equal(&after));
     Ok(())
 }
 
@@ -36,9 +35,9 @@ fn ok_differences(rt: HostRuntime) -> Result<(), Fail> {
     let before = Records::read(rt.alloc(), BEFORE)?;
     let after = Records::read(rt.alloc(), AFTER)?;
     let differences = Differences::new(rt.alloc(), &before, &after)?;
-    assert_holds(&rt, differences.changed('a'));
-    assert_holds(&rt, !differences.changed('b'));
-    assert_holds(&rt, !differences.changed('á'));
-    assert_holds(&rt, !differences.before().changed(&before, 'a'));
+    assert!(rt; differences.changed('a'));
+    assert!(rt; !differences.changed('b'));
+    assert!(rt; !differences.changed('á'));
+    assert!(rt; !differences.before().changed(&before, 'a'));
     Ok(())
 }

@@ -1,7 +1,7 @@
 //! What the provider of a compiled file gives, and that a file that is as large as may be is compiled, within the limits that
 //! count where none are named and past them.
 
-use assertions::{assert_holds, assert_same};
+use assertions::assert_same;
 use collate_records::compile::compile;
 use collate_records::limits::Limits;
 use collate_records::provider::Provider;
@@ -70,7 +70,7 @@ fn lacks_what_no_line_says(rt: &impl Abort, alloc: Global, provider: &Provider) 
         ),
     ];
     for (error, table) in missing {
-        assert_same(rt, error, Some(DataError::Missing(table)));
+        assert_same!(rt; error, Some(DataError::Missing(table)));
     }
 }
 
@@ -105,16 +105,12 @@ fn has_canonical_tables(rt: &impl Abort, alloc: Global, provider: &Provider) {
         ('\u{1ea1}', 0x61 | 0x323 << 15),
         ('\u{ac00}', 1),
     ] {
-        assert_same(rt, canonical_word(alloc, provider, c), Some(word));
+        assert_same!(rt; canonical_word(alloc, provider, c), Some(word));
     }
     let steps = steps(alloc, provider).unwrap_or(Vec::new(alloc));
-    assert_same(rt, steps.as_slice(), [0x1ea1, 0x61, 0x323].as_slice());
+    assert_same!(rt; steps.as_slice(), [0x1ea1, 0x61, 0x323].as_slice());
     let pairs = pairs(alloc, provider).unwrap_or(Vec::new(alloc));
-    assert_same(
-        rt,
-        pairs.as_slice(),
-        [0x61 << 42 | 0x323 << 21 | 0x1ea1].as_slice(),
-    );
+    assert_same!(rt; pairs.as_slice(), [0x61 << 42 | 0x323 << 21 | 0x1ea1].as_slice());
 }
 
 fn has_words_of_compatibility(rt: &impl Abort, alloc: Global, provider: &Provider) {
@@ -122,8 +118,8 @@ fn has_words_of_compatibility(rt: &impl Abort, alloc: Global, provider: &Provide
         Ok(trie) => Some(trie.get('\u{b2}')),
         Err(_) => None,
     };
-    assert_same(rt, word, Some(0x32));
-    assert_holds(rt, provider.load_nfkd_tables(alloc).is_ok());
+    assert_same!(rt; word, Some(0x32));
+    assert!(rt; provider.load_nfkd_tables(alloc).is_ok());
 }
 
 /// The word of a character in data that were loaded.
@@ -136,21 +132,21 @@ fn word_in(data: Result<CollationData<'_>, DataError>, c: char) -> Option<u32> {
 
 fn has_words_of_root(rt: &impl Abort, alloc: Global, provider: &Provider) {
     for (c, word) in [('a', 0x2a10_0505), ('b', 0)] {
-        assert_same(rt, word_in(provider.load_root(alloc), c), Some(word));
+        assert_same!(rt; word_in(provider.load_root(alloc), c), Some(word));
     }
 }
 
 fn has_settings(rt: &impl Abort, alloc: Global, provider: &Provider, bits: u32, numeric: u8) {
     let metadata = provider.load_metadata(alloc, "", None).ok();
-    assert_same(rt, metadata.map(|metadata| metadata.bits), Some(bits));
+    assert_same!(rt; metadata.map(|metadata| metadata.bits), Some(bits));
     let jamo = provider.load_jamo(alloc).ok();
-    assert_same(rt, jamo.map(|jamo| jamo.ce32s.len()), Some(256));
+    assert_same!(rt; jamo.map(|jamo| jamo.ce32s.len()), Some(256));
     let lead = match provider.load_special_primaries(alloc) {
         Ok(primaries) => Some(primaries.numeric_primary),
         Err(_) => None,
     };
-    assert_same(rt, lead, Some(numeric));
-    assert_holds(rt, provider.load_diacritics(alloc, "", None).is_ok());
+    assert_same!(rt; lead, Some(numeric));
+    assert!(rt; provider.load_diacritics(alloc, "", None).is_ok());
 }
 
 #[test]
@@ -169,9 +165,9 @@ fn a_tailoring_and_a_reordering_are_given(rt: HostRuntime) -> Result<(), Fail> {
 fn has_words_of_tailoring(rt: &impl Abort, alloc: Global, provider: &Provider) {
     for (c, word) in [('a', 0x2a18_0505), ('b', 0xc0)] {
         let data = provider.load_tailoring(alloc, "de", Some("phonebk"));
-        assert_same(rt, word_in(data, c), Some(word));
+        assert_same!(rt; word_in(data, c), Some(word));
     }
-    assert_same(rt, word_in(provider.load_root(alloc), 'b'), Some(0));
+    assert_same!(rt; word_in(provider.load_root(alloc), 'b'), Some(0));
 }
 
 /// The lead that stands in the place of another.
@@ -183,8 +179,8 @@ fn lead_for(alloc: Global, provider: &Provider, lead: usize) -> Option<u8> {
 }
 
 fn has_leads(rt: &impl Abort, alloc: Global, provider: &Provider) {
-    assert_same(rt, lead_for(alloc, provider, 0x2a), Some(0x2b));
-    assert_same(rt, lead_for(alloc, provider, 0x2b), Some(0x2a));
+    assert_same!(rt; lead_for(alloc, provider, 0x2a), Some(0x2b));
+    assert_same!(rt; lead_for(alloc, provider, 0x2b), Some(0x2a));
 }
 
 /// As many lines and characters as a file may have, each with as many characters and elements as a line may have, of which no
@@ -245,7 +241,7 @@ fn last_texts_are_read(rt: &impl Abort, alloc: Global, tables: &CheckedTables<'_
         let text = [
             first, behind, behind, behind, behind, behind, behind, behind,
         ];
-        assert_same(rt, last_primary(alloc, tables, &text), Some(primary));
+        assert_same!(rt; last_primary(alloc, tables, &text), Some(primary));
     }
 }
 
@@ -299,7 +295,7 @@ fn order(
 fn a_file_past_the_standard_limits_is_compiled(rt: HostRuntime) -> Result<(), Fail> {
     let alloc = rt.alloc();
     let file = falling_file(alloc).ok_or("no memory")?;
-    assert_holds(&rt, Records::read(alloc, file.as_bytes()).is_err());
+    assert!(rt; Records::read(alloc, file.as_bytes()).is_err());
     for trie_type in [TrieType::Fast, TrieType::Small] {
         let tables = checked_within_unicode(alloc, file.as_bytes(), trie_type).ok_or(
             "not compiled",
@@ -319,6 +315,6 @@ fn falling_texts_are_ordered(rt: &impl Abort, alloc: Global, tables: &CheckedTab
         (&[last, first], &[second, last], Ordering::Less),
     ];
     for (left, right, expected) in rows {
-        assert_same(rt, order(alloc, tables, left, right), Some(expected));
+        assert_same!(rt; order(alloc, tables, left, right), Some(expected));
     }
 }

@@ -27,8 +27,8 @@ fn ok_first_undecomposed(rt: HostRuntime) -> Result<(), Fail> {
         ignorable(alloc, &[], &['a', '\u{301}'])?,
         ignorable(alloc, &[], &['\u{344}'])?,
     ];
-    assert_same(&rt, first_undecomposed(alloc, &records[..1])?, None);
-    assert_same(&rt, first_undecomposed(alloc, &records)?, Some(1));
+    assert_same!(rt; first_undecomposed(alloc, &records[..1])?, None);
+    assert_same!(rt; first_undecomposed(alloc, &records)?, Some(1));
     Ok(())
 }
 
@@ -39,8 +39,8 @@ fn ok_first_late_starter(rt: HostRuntime) -> Result<(), Fail> {
         ignorable(alloc, &[], &['a', 'b', '\u{301}'])?,
         ignorable(alloc, &[], &['\u{350}', '\u{301}', 'b'])?,
     ];
-    assert_same(&rt, first_late_starter(alloc, &records[..1])?, None);
-    assert_same(&rt, first_late_starter(alloc, &records)?, Some(1));
+    assert_same!(rt; first_late_starter(alloc, &records[..1])?, None);
+    assert_same!(rt; first_late_starter(alloc, &records)?, Some(1));
     Ok(())
 }
 
@@ -51,8 +51,8 @@ fn ok_first_lacking_shorter(rt: HostRuntime) -> Result<(), Fail> {
         ignorable(alloc, &[], &['a', 'b', '\u{301}'])?,
         ignorable(alloc, &[], &['a', 'b'])?,
     ];
-    assert_same(&rt, first_lacking_shorter(alloc, &records)?, None);
-    assert_same(&rt, first_lacking_shorter(alloc, &records[..1])?, Some(0));
+    assert_same!(rt; first_lacking_shorter(alloc, &records)?, None);
+    assert_same!(rt; first_lacking_shorter(alloc, &records[..1])?, Some(0));
     Ok(())
 }
 
@@ -63,8 +63,8 @@ fn ok_first_bad_prefix(rt: HostRuntime) -> Result<(), Fail> {
         ignorable(alloc, &['a'], &['b'])?,
         ignorable(alloc, &[], &['b'])?,
     ];
-    assert_same(&rt, first_bad_prefix(alloc, &records)?, None);
-    assert_same(&rt, first_bad_prefix(alloc, &records[..1])?, Some(0));
+    assert_same!(rt; first_bad_prefix(alloc, &records)?, None);
+    assert_same!(rt; first_bad_prefix(alloc, &records[..1])?, Some(0));
     Ok(())
 }
 
@@ -79,8 +79,8 @@ fn ok_first_bad_digit(rt: HostRuntime) -> Result<(), Fail> {
         ignorable(alloc, &[], &['1'])?,
         ignorable(alloc, &['a'], &['1'])?,
     ];
-    assert_same(&rt, first_bad_digit(alloc, &records[..2])?, None);
-    assert_same(&rt, first_bad_digit(alloc, &records)?, Some(2));
+    assert_same!(rt; first_bad_digit(alloc, &records[..2])?, None);
+    assert_same!(rt; first_bad_digit(alloc, &records)?, Some(2));
     Ok(())
 }
 
@@ -89,8 +89,8 @@ fn ok_first_bad_dotted(rt: HostRuntime) -> Result<(), Fail> {
     let alloc = rt.alloc();
     let off = [Record::Set(Setting::DotAbove(false))];
     let on = [Record::Set(Setting::DotAbove(true))];
-    assert_same(&rt, first_bad_dotted(alloc, &off)?, None);
-    assert_same(&rt, first_bad_dotted(alloc, &on)?, Some(0));
+    assert_same!(rt; first_bad_dotted(alloc, &off)?, None);
+    assert_same!(rt; first_bad_dotted(alloc, &on)?, Some(0));
     Ok(())
 }
 
@@ -101,7 +101,7 @@ fn ok_first_bad_setting(rt: HostRuntime) -> Result<(), Fail> {
         Record::Set(Setting::Numeric(0x20)),
         Record::Set(Setting::Groups([0x300, 0x400, 0x400, 0x2001])),
     ];
-    assert_same(&rt, first_bad_setting(alloc, &records[..1])?, None);
-    assert_same(&rt, first_bad_setting(alloc, &records)?, Some(1));
+    assert_same!(rt; first_bad_setting(alloc, &records[..1])?, None);
+    assert_same!(rt; first_bad_setting(alloc, &records)?, Some(1));
     Ok(())
 }

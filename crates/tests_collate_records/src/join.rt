@@ -1,6 +1,6 @@
 //! A tailoring put over a root: which lines the join has, where they stand, and lines `# without` at fault.
 
-use assertions::{assert_holds, assert_same};
+use assertions::assert_same;
 use collate_join::{JoinError, Origin, join};
 use collate_records::records::Records;
 use collate_records::rule::{RecordFault, RecordsError, Rule};
@@ -25,7 +25,7 @@ fn ok_join(rt: HostRuntime) -> Result<(), Fail> {
         b"# a root\nclass 0306 230\nw 0061 ; [2A100000.0500.0.0500.0]\nw 0418 0306 ; [2A200000.0500.0.0500.0]\n\
     w 0418 | 0061 ;\nset alternate nonignorable\nset numeric 0F\nrange 4E00 4E01 E0020200 1\n",
     )?;
-    assert_holds(&rt, whole);
+    assert!(rt; whole);
     // a contraction is left out, a setting and a class are set anew, a t line stands beside the w line
     let told = is_joined(
         alloc,
@@ -34,7 +34,7 @@ fn ok_join(rt: HostRuntime) -> Result<(), Fail> {
     range 4E00 4E01 E0020200 1\n# without 0418 0306\nset alternate shifted\nclass 0306 9\nt 0061 ;\n\
     range 4E00 4E00 E0020200 1\n",
     )?;
-    assert_holds(&rt, told);
+    assert!(rt; told);
     // a w line is set anew by its prefix and text alone
     let anew = is_joined(
         alloc,
@@ -42,7 +42,7 @@ fn ok_join(rt: HostRuntime) -> Result<(), Fail> {
         b"# a root\nclass 0306 230\nw 0418 0306 ; [2A200000.0500.0.0500.0]\nset alternate nonignorable\n\
     set numeric 0F\nrange 4E00 4E01 E0020200 1\n# without 0418 | 0061\nw 0061 ;",
     )?;
-    assert_holds(&rt, anew);
+    assert!(rt; anew);
     Ok(())
 }
 
@@ -67,11 +67,7 @@ fn what_the_root_lacks_can_not_be_left_out(rt: HostRuntime) {
         b"\n# without 0061\n# without 0062".as_slice(),
     ] {
         let line = if tailoring.ends_with(b"62") { 3 } else { 2 };
-        assert_same(
-            &rt,
-            fault_of(alloc, tailoring),
-            Some(JoinError::NoSuchRecord(line)),
-        );
+        assert_same!(rt; fault_of(alloc, tailoring), Some(JoinError::NoSuchRecord(line)));
     }
     for tailoring in [
         b"# without 0061\n# without 0061".as_slice(),
@@ -79,7 +75,7 @@ fn what_the_root_lacks_can_not_be_left_out(rt: HostRuntime) {
         b"# Without 0062".as_slice(),
         b" # without 0062".as_slice(),
     ] {
-        assert_same(&rt, fault_of(alloc, tailoring), None);
+        assert_same!(rt; fault_of(alloc, tailoring), None);
     }
 }
 
@@ -108,10 +104,10 @@ fn a_fault_is_of_the_file_that_has_the_line(rt: HostRuntime) -> Result<(), Fail>
     // line 6 of the root, of which one line is left out and one set anew
     let tailoring = b"# without 0418 0306\nset alternate shifted".as_slice();
     let of_root = origin_of_fault(alloc, FAULTY_ROOT, tailoring)?;
-    assert_same(&rt, of_root, Some((Origin::Root(6), Rule::Grammar)));
+    assert_same!(rt; of_root, Some((Origin::Root(6), Rule::Grammar)));
     // of two ranges that overlap the one after is at fault
     let tailoring = b"# without 0418 0306\n\nrange 4E01 4E02 E0030200 1".as_slice();
     let of_tailoring = origin_of_fault(alloc, ROOT, tailoring)?;
-    assert_same(&rt, of_tailoring, Some((Origin::Tailoring(3), Rule::V6)));
+    assert_same!(rt; of_tailoring, Some((Origin::Tailoring(3), Rule::V6)));
     Ok(())
 }

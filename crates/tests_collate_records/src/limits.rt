@@ -1,7 +1,7 @@
 //! The limits of a file, on both sides of each number.
 
 use crate::reader::{at, fault_of};
-use assertions::{assert_holds, assert_same};
+use assertions::assert_same;
 use collate_records::limits::Limits;
 use collate_records::records::Records;
 use collate_records::rule::{RecordsError, Rule};
@@ -63,7 +63,7 @@ fn goes_by_limits_of_its_own(rt: HostRuntime) -> Result<(), Fail> {
         records: 2,
     };
     let records = Records::read_within(alloc, file, limits)?;
-    assert_holds(&rt, records.limits() == limits);
+    assert!(rt; records.limits() == limits);
     for (few, rule) in [
         (
             Limits {
@@ -87,7 +87,7 @@ fn goes_by_limits_of_its_own(rt: HostRuntime) -> Result<(), Fail> {
             Rule::Limit,
         ),
     ] {
-        assert_same(&rt, fault_within(alloc, file, few), at(2, rule));
+        assert_same!(rt; fault_within(alloc, file, few), at(2, rule));
     }
     Ok(())
 }
@@ -101,25 +101,18 @@ fn reads_within_the_standard_limits(rt: HostRuntime) -> Result<(), Fail> {
         file.push_str(&format!(in alloc; "class {code:04X} 1\n")?)?;
     }
     let records = Records::read(alloc, file.as_bytes())?;
-    assert_holds(&rt, records.limits() == Limits::STANDARD);
+    assert!(rt; records.limits() == Limits::STANDARD);
     file.push_str("class 20000 1\n")?;
-    assert_same(&rt, fault_of(alloc, file.as_bytes()), at(151, Rule::Limit));
-    assert_same(
-        &rt,
-        fault_within(alloc, file.as_bytes(), Limits::UNICODE),
-        None,
-    );
+    assert_same!(rt; fault_of(alloc, file.as_bytes()), at(151, Rule::Limit));
+    assert_same!(rt; fault_within(alloc, file.as_bytes(), Limits::UNICODE), None);
     Ok(())
 }
 
 #[test]
 fn counts_blocks(rt: HostRuntime) -> Result<(), Fail> {
-    assert_holds(&rt, is_most(rt.alloc(), "class", 512, " 0", 699)?);
-    assert_holds(&rt, is_most(rt.alloc(), "class", 16, " 0", 11_000)?);
-    assert_holds(
-        &rt,
-        is_most(rt.alloc(), "range", 1, " 10FFFF E0020200 1", 233)?,
-    );
+    assert!(rt; is_most(rt.alloc(), "class", 512, " 0", 699)?);
+    assert!(rt; is_most(rt.alloc(), "class", 16, " 0", 11_000)?);
+    assert!(rt; is_most(rt.alloc(), "range", 1, " 10FFFF E0020200 1", 233)?);
     Ok(())
 }
 
@@ -130,30 +123,22 @@ fn counts_no_block_of_sixteen_below_10000(rt: HostRuntime) -> Result<(), Fail> {
     for block in 0..0xd80u32 {
         file.push_str(&format!(in alloc; "class {:04X} 0\n", 16 * block)?)?;
     }
-    assert_same(
-        &rt,
-        fault_within(alloc, file.as_bytes(), Limits::UNICODE),
-        at(1, Rule::C1),
-    );
+    assert_same!(rt; fault_within(alloc, file.as_bytes(), Limits::UNICODE), at(1, Rule::C1));
     file.push_str("class 50000 0\n")?;
-    assert_same(
-        &rt,
-        fault_within(alloc, file.as_bytes(), Limits::UNICODE),
-        at(14_458, Rule::Limit),
-    );
+    assert_same!(rt; fault_within(alloc, file.as_bytes(), Limits::UNICODE), at(14_458, Rule::Limit));
     Ok(())
 }
 
 #[test]
 fn counts_elements(rt: HostRuntime) -> Result<(), Fail> {
-    assert_holds(&rt, is_most(rt.alloc(), "w", 1, EIGHT_ELEMENTS, 57_777)?);
+    assert!(rt; is_most(rt.alloc(), "w", 1, EIGHT_ELEMENTS, 57_777)?);
     Ok(())
 }
 
 #[test]
 fn counts_texts_beside(rt: HostRuntime) -> Result<(), Fail> {
-    assert_holds(&rt, is_most(rt.alloc(), "w 0061", 1, " ;", 3_600)?);
-    assert_holds(&rt, is_most(rt.alloc(), "t 0061 |", 1, " ;", 3_600)?);
+    assert!(rt; is_most(rt.alloc(), "w 0061", 1, " ;", 3_600)?);
+    assert!(rt; is_most(rt.alloc(), "t 0061 |", 1, " ;", 3_600)?);
     Ok(())
 }
 
@@ -161,12 +146,9 @@ fn counts_texts_beside(rt: HostRuntime) -> Result<(), Fail> {
 fn counts_characters_of_full_lists(rt: HostRuntime) -> Result<(), Fail> {
     let alloc = rt.alloc();
     // a list of its own, one that leads on, and one by compatibility
-    assert_holds(&rt, is_most(alloc, "map", 1, " 0061 0062", 8_000)?);
-    assert_holds(&rt, is_most(alloc, "map", 1, " 0300", 2_000)?);
-    assert_holds(
-        &rt,
-        is_most(alloc, "kmap", 1, " 0061 0062 0063 0064 0065", 3_200)?,
-    );
-    assert_holds(&rt, is_most(alloc, "kmap", 1, " 0300", 2_000)?);
+    assert!(rt; is_most(alloc, "map", 1, " 0061 0062", 8_000)?);
+    assert!(rt; is_most(alloc, "map", 1, " 0300", 2_000)?);
+    assert!(rt; is_most(alloc, "kmap", 1, " 0061 0062 0063 0064 0065", 3_200)?);
+    assert!(rt; is_most(alloc, "kmap", 1, " 0300", 2_000)?);
     Ok(())
 }

@@ -22,10 +22,10 @@ const LINE_LIMIT: usize = 1024;
 #[test]
 fn reads_what_lines_say(rt: HostRuntime) -> Result<(), Fail> {
     let records = Records::read(rt.alloc(), b"# two lines\n\nclass 0327 202\nw 0000 ;")?;
-    assert_same(&rt, records.class('\u{327}'), 202);
+    assert_same!(rt; records.class('\u{327}'), 202);
     // each of the four lines counts
     let file = b"# two lines\n\nclass 0327 202\nw 0000 ;\nx";
-    assert_same(&rt, fault_of(rt.alloc(), file), at(5, Rule::Grammar));
+    assert_same!(rt; fault_of(rt.alloc(), file), at(5, Rule::Grammar));
     Ok(())
 }
 
@@ -45,7 +45,7 @@ fn accepts_lines(rt: HostRuntime) {
         b"map 0400 0041\nmap 0401 0041 x".as_slice(),
         b"w 0061 ; [00000000.8000.0.0500.0] [0.8000.2.0500.3]".as_slice(),
     ] {
-        assert_same(&rt, fault_of(alloc, file), None);
+        assert_same!(rt; fault_of(alloc, file), None);
     }
 }
 
@@ -63,7 +63,7 @@ fn accepts_each_form_of_line(rt: HostRuntime) {
         b"set dotabove off\nset numeric 11\nset groups 0300 0400 0500 0600".as_slice(),
         b"set compress 2A 2A 2B\nset reorder 30 31 31 30".as_slice(),
     ] {
-        assert_same(&rt, fault_of(alloc, file), None);
+        assert_same!(rt; fault_of(alloc, file), None);
     }
 }
 
@@ -85,7 +85,7 @@ fn refuses_forms_that_lack_a_field(rt: HostRuntime) {
         b"digit 0030 10".as_slice(),
         b"digit 0030".as_slice(),
     ] {
-        assert_same(&rt, fault_of(alloc, file), at(1, Rule::Grammar));
+        assert_same!(rt; fault_of(alloc, file), at(1, Rule::Grammar));
     }
 }
 
@@ -106,7 +106,7 @@ fn refuses_settings_outside_the_grammar(rt: HostRuntime) {
         b"set reorder 2A 2B 2B".as_slice(),
         b"set strength 1".as_slice(),
     ] {
-        assert_same(&rt, fault_of(alloc, file), at(1, Rule::Grammar));
+        assert_same!(rt; fault_of(alloc, file), at(1, Rule::Grammar));
     }
 }
 
@@ -124,7 +124,7 @@ fn refuses_a_second_line_for_one_thing(rt: HostRuntime) {
             3,
         ),
     ] {
-        assert_same(&rt, fault_of(alloc, file), at(line, Rule::V14));
+        assert_same!(rt; fault_of(alloc, file), at(line, Rule::V14));
     }
 }
 
@@ -157,7 +157,7 @@ fn refuses_lines_outside_the_grammar(rt: HostRuntime) {
         b"map 00C5 0041 030A 030B".as_slice(),
         b"map 00C5 0041 x x".as_slice(),
     ] {
-        assert_same(&rt, fault_of(alloc, file), at(1, Rule::Grammar));
+        assert_same!(rt; fault_of(alloc, file), at(1, Rule::Grammar));
     }
 }
 
@@ -178,7 +178,7 @@ fn refuses_elements_outside_the_grammar(rt: HostRuntime) {
         b"w 0061 ; [0.8000.0.0500.0.0]".as_slice(),
         b"w 0061 ; [".as_slice(),
     ] {
-        assert_same(&rt, fault_of(alloc, file), at(1, Rule::Grammar));
+        assert_same!(rt; fault_of(alloc, file), at(1, Rule::Grammar));
     }
 }
 
@@ -201,7 +201,7 @@ fn names_the_first_fault(rt: HostRuntime) {
         (b"class 0301 220\nclass 0350 0".as_slice(), 2, Rule::C3),
         (b"map 00C5 00C6\nmap 00C6 00C5".as_slice(), 2, Rule::C2),
     ] {
-        assert_same(&rt, fault_of(alloc, file), at(line, rule));
+        assert_same!(rt; fault_of(alloc, file), at(line, rule));
     }
 }
 
@@ -209,21 +209,21 @@ fn names_the_first_fault(rt: HostRuntime) {
 fn keeps_the_limits_of_lines(rt: HostRuntime) -> Result<(), Fail> {
     let alloc = rt.alloc();
     let mut comment = vec![in alloc; b'#'; LINE_LIMIT]?;
-    assert_same(&rt, fault_of(alloc, &comment), None);
+    assert_same!(rt; fault_of(alloc, &comment), None);
     comment.push(b'#')?;
-    assert_same(&rt, fault_of(alloc, &comment), at(1, Rule::Grammar));
+    assert_same!(rt; fault_of(alloc, &comment), at(1, Rule::Grammar));
     let mut line = Vec::new(alloc);
     line.extend_from_slice(b"w 0061 ;")?;
     for _ in 0..8 {
         line.extend_from_slice(b" [0.8000.0.0500.0]")?;
     }
-    assert_same(&rt, fault_of(alloc, &line), None);
+    assert_same!(rt; fault_of(alloc, &line), None);
     line.extend_from_slice(b" [0.8000.0.0500.0]")?;
-    assert_same(&rt, fault_of(alloc, &line), at(1, Rule::Limit));
+    assert_same!(rt; fault_of(alloc, &line), at(1, Rule::Limit));
     let text = b"w 0061 0061 0061 0061 0061 0061 0061 0061 0061 ;";
-    assert_same(&rt, fault_of(alloc, text), at(1, Rule::Limit));
+    assert_same!(rt; fault_of(alloc, text), at(1, Rule::Limit));
     let mapping = b"kmap 00B2 0061 0061 0061 0061 0061 0061 0061 0061 0061";
-    assert_same(&rt, fault_of(alloc, mapping), at(1, Rule::Limit));
+    assert_same!(rt; fault_of(alloc, mapping), at(1, Rule::Limit));
     Ok(())
 }
 
@@ -231,9 +231,9 @@ fn keeps_the_limits_of_lines(rt: HostRuntime) -> Result<(), Fail> {
 fn keeps_the_size_of_files(rt: HostRuntime) -> Result<(), Fail> {
     let alloc = rt.alloc();
     let mut file = vec![in alloc; b'\n'; 1048576]?;
-    assert_same(&rt, fault_of(alloc, &file), None);
+    assert_same!(rt; fault_of(alloc, &file), None);
     file.push(b'\n')?;
-    assert_same(&rt, fault_of(alloc, &file), at(1048577, Rule::Grammar));
+    assert_same!(rt; fault_of(alloc, &file), at(1048577, Rule::Grammar));
     Ok(())
 }
 
@@ -244,8 +244,8 @@ fn counts_code_points(rt: HostRuntime) -> Result<(), Fail> {
     for code in 0x4e00..0x4e96u32 {
         file.push_str(&format!(in alloc; "w {code:04X} ;\n")?)?;
     }
-    assert_same(&rt, fault_of(alloc, file.as_bytes()), None);
+    assert_same!(rt; fault_of(alloc, file.as_bytes()), None);
     file.push_str("w 4E96 ;")?;
-    assert_same(&rt, fault_of(alloc, file.as_bytes()), at(151, Rule::Limit));
+    assert_same!(rt; fault_of(alloc, file.as_bytes()), at(151, Rule::Limit));
     Ok(())
 }

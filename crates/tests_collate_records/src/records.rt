@@ -1,7 +1,7 @@
 //! What the records of an accepted file answer.
 
 use crate::reader::{at, fault_of};
-use assertions::{assert_holds, assert_same};
+use assertions::assert_same;
 use collate_records::records::Records;
 use collate_records::rule::Rule;
 use icu_collator_types::options::{AlternateHandling, CollationCaseFirst, MaxVariable};
@@ -62,7 +62,7 @@ fn a_line_more_may_be_at_fault(rt: HostRuntime) -> Result<(), Fail> {
     for (line, rule) in lines {
         let mut file = Vec::from_slice(alloc, LETTERS)?;
         file.extend_from_slice(line)?;
-        assert_same(&rt, fault_of(alloc, &file), at(16, rule));
+        assert_same!(rt; fault_of(alloc, &file), at(16, rule));
     }
     Ok(())
 }
@@ -85,7 +85,7 @@ fn classes_are_said_or_built_in(rt: &impl Abort, records: &Records) {
         ('\u{f71}', 129),
         ('\u{ac00}', 0),
     ] {
-        assert_same(rt, records.class(character), class);
+        assert_same!(rt; records.class(character), class);
     }
 }
 
@@ -96,7 +96,7 @@ fn mappings_are_one_step(rt: &impl Abort, records: &Records) {
         ('\u{340}', Decomposed::Singleton('\u{300}')),
         ('a', Decomposed::Default),
     ] {
-        assert_same(rt, records.mapping(character), mapping);
+        assert_same!(rt; records.mapping(character), mapping);
     }
 }
 
@@ -104,17 +104,17 @@ fn mappings_are_one_step(rt: &impl Abort, records: &Records) {
 fn ok_settings(rt: HostRuntime) -> Result<(), Fail> {
     let file = b"set maxvariable space\n\nset casefirst lower\nset alternate shifted";
     let settings = Records::read(rt.alloc(), file)?.settings();
-    assert_same(&rt, settings.alternate_handling, AlternateHandling::Shifted);
-    assert_same(&rt, settings.case_first, CollationCaseFirst::Lower);
-    assert_same(&rt, settings.max_variable, MaxVariable::Space);
+    assert_same!(rt; settings.alternate_handling, AlternateHandling::Shifted);
+    assert_same!(rt; settings.case_first, CollationCaseFirst::Lower);
+    assert_same!(rt; settings.max_variable, MaxVariable::Space);
     Ok(())
 }
 
 #[test]
 fn ok_canonical(rt: HostRuntime) -> Result<(), Fail> {
     let records = Records::read(rt.alloc(), LETTERS)?;
-    assert_holds(&rt, has_full_lists(records.canonical()));
-    assert_holds(&rt, composes_letters(records.canonical()));
+    assert!(rt; has_full_lists(records.canonical()));
+    assert!(rt; composes_letters(records.canonical()));
     Ok(())
 }
 
@@ -141,7 +141,7 @@ fn numbers_are_looked_up(rt: HostRuntime) -> Result<(), Fail> {
     classes_are_those_of_numbers(&rt, &records);
     mappings_are_those_of_numbers(&rt, &records);
     // an x keeps the mapping out of the composed pairs
-    assert_holds(&rt, records.canonical().compose('d', 'e').is_none());
+    assert!(rt; records.canonical().compose('d', 'e').is_none());
     Ok(())
 }
 
@@ -153,7 +153,7 @@ fn classes_are_those_of_numbers(rt: &impl Abort, records: &Records) {
         ('\u{10000}', 4),
         ('\u{10ffff}', 5),
     ] {
-        assert_same(rt, records.class(character), class);
+        assert_same!(rt; records.class(character), class);
     }
 }
 
@@ -165,7 +165,7 @@ fn mappings_are_those_of_numbers(rt: &impl Abort, records: &Records) {
         ('\u{10001}', Decomposed::Expansion('d', 'e')),
         ('\u{10fffe}', Decomposed::Singleton('f')),
     ] {
-        assert_same(rt, records.mapping(character), mapping);
+        assert_same!(rt; records.mapping(character), mapping);
     }
 }
 
@@ -178,8 +178,8 @@ fn as_many_characters_as_a_file_names(rt: HostRuntime) -> Result<(), Fail> {
         file.push_str(&format!(in alloc; "class {code:04X} 1\n")?)?;
     }
     let records = Records::read(alloc, file.as_bytes())?;
-    assert_same(&rt, records.class('\u{e000}'), 1);
-    assert_same(&rt, records.class('\u{e001}'), 0);
-    assert_same(&rt, records.class('\u{a3000}'), 1);
+    assert_same!(rt; records.class('\u{e000}'), 1);
+    assert_same!(rt; records.class('\u{e001}'), 0);
+    assert_same!(rt; records.class('\u{a3000}'), 1);
     Ok(())
 }

@@ -19,12 +19,12 @@ fn errors_print(rt: HostRuntime) -> Result<(), Fail> {
         line: 1048577,
         rule: Rule::Grammar,
     };
-    assert_same(&rt, shown(alloc, &Rule::V14)?.as_str(), "V14");
-    assert_same(&rt, shown(alloc, &fault)?.as_str(), "1048577 grammar");
+    assert_same!(rt; shown(alloc, &Rule::V14)?.as_str(), "V14");
+    assert_same!(rt; shown(alloc, &fault)?.as_str(), "1048577 grammar");
     let refused = RecordsError::Fault(fault);
-    assert_same(&rt, shown(alloc, &refused)?.as_str(), "1048577 grammar");
+    assert_same!(rt; shown(alloc, &refused)?.as_str(), "1048577 grammar");
     let refused = RecordsError::Memory;
-    assert_same(&rt, shown(alloc, &refused)?.as_str(), "out of memory");
+    assert_same!(rt; shown(alloc, &refused)?.as_str(), "out of memory");
     Ok(())
 }
 
@@ -35,9 +35,9 @@ fn mapped_marks(rt: HostRuntime) {
         (b"class 0350 10\nmap 0350 0061".as_slice(), 2),
         (b"map 0300 0061".as_slice(), 1),
     ] {
-        assert_same(&rt, fault_of(rt.alloc(), file), at(line, Rule::C1));
+        assert_same!(rt; fault_of(rt.alloc(), file), at(line, Rule::C1));
     }
-    assert_same(&rt, fault_of(rt.alloc(), b"map 0340 0300"), None);
+    assert_same!(rt; fault_of(rt.alloc(), b"map 0340 0300"), None);
 }
 
 #[test]
@@ -52,7 +52,7 @@ fn loops(rt: HostRuntime) {
         // no loop, or it would come before a full list that begins with a mark
         (b"map 0400 0341\nmap 0403 0400".as_slice(), 1, Rule::C4),
     ] {
-        assert_same(&rt, fault_of(rt.alloc(), file), at(line, rule));
+        assert_same!(rt; fault_of(rt.alloc(), file), at(line, rule));
     }
 }
 
@@ -70,10 +70,10 @@ map 0400 0401 0401 x"
         (b"map 0400 0350\nclass 0350 9".as_slice(), 2),
         (b"map 0400 FF9E".as_slice(), 1),
     ] {
-        assert_same(&rt, fault_of(rt.alloc(), file), at(line, Rule::C4));
+        assert_same!(rt; fault_of(rt.alloc(), file), at(line, Rule::C4));
     }
     let eight = b"map 0402 0403 0403 x\nmap 0401 0402 0402 x\nmap 0400 0401 0401 x";
-    assert_same(&rt, fault_of(rt.alloc(), eight), None);
+    assert_same!(rt; fault_of(rt.alloc(), eight), None);
 }
 
 #[test]
@@ -83,9 +83,9 @@ fn bad_classes(rt: HostRuntime) {
         (b"class 0350 0".as_slice(), 1),
         (b"class 0301 255".as_slice(), 1),
     ] {
-        assert_same(&rt, fault_of(rt.alloc(), file), at(line, Rule::C3));
+        assert_same!(rt; fault_of(rt.alloc(), file), at(line, Rule::C3));
     }
-    assert_same(&rt, fault_of(rt.alloc(), b"class 0F73 0"), None);
+    assert_same!(rt; fault_of(rt.alloc(), b"class 0F73 0"), None);
 }
 
 #[test]
@@ -103,14 +103,14 @@ map 0403 0410 0301"
             4,
         ),
     ] {
-        assert_same(&rt, fault_of(rt.alloc(), file), at(line, Rule::C5));
+        assert_same!(rt; fault_of(rt.alloc(), file), at(line, Rule::C5));
     }
     for file in [
         b"map 0400 0410 0300\nmap 0401 0410 0300 x".as_slice(),
         b"map 0400 0410\nmap 0401 0410".as_slice(),
         b"map 0400 0410 0411\nmap 0401 0411 0410".as_slice(),
     ] {
-        assert_same(&rt, fault_of(rt.alloc(), file), None);
+        assert_same!(rt; fault_of(rt.alloc(), file), None);
     }
 }
 
@@ -122,7 +122,7 @@ fn bad_seconds(rt: HostRuntime) {
         (b"map 0400 0410 1161".as_slice(), 1),
         (b"map 0400 0410 11FF".as_slice(), 1),
     ] {
-        assert_same(&rt, fault_of(rt.alloc(), file), at(line, Rule::C6));
+        assert_same!(rt; fault_of(rt.alloc(), file), at(line, Rule::C6));
     }
     for file in [
         b"map 0400 0410 0300".as_slice(),
@@ -130,7 +130,7 @@ fn bad_seconds(rt: HostRuntime) {
         b"map 0400 0410 0061 x".as_slice(),
         b"map AC00 1100 1161".as_slice(),
     ] {
-        assert_same(&rt, fault_of(rt.alloc(), file), None);
+        assert_same!(rt; fault_of(rt.alloc(), file), None);
     }
 }
 
@@ -149,14 +149,14 @@ fn bad_low_characters(rt: HostRuntime) {
         // before a contradiction in line 2
         (b"map 00E1 0061 0301 x\nclass 0301 220".as_slice(), 1),
     ] {
-        assert_same(&rt, fault_of(rt.alloc(), file), at(line, Rule::C7));
+        assert_same!(rt; fault_of(rt.alloc(), file), at(line, Rule::C7));
     }
     for file in [
         b"map 00C0 0061 0301".as_slice(),
         b"class 0300 230".as_slice(),
         b"map 0400 0410 0301 x\nmap 0401 0410".as_slice(),
     ] {
-        assert_same(&rt, fault_of(rt.alloc(), file), None);
+        assert_same!(rt; fault_of(rt.alloc(), file), None);
     }
 }
 
@@ -177,13 +177,13 @@ fn composed_low_characters(rt: HostRuntime) {
         // its second is mapped
         (b"map 0200 0061 0400\nmap 0400 0401 0301".as_slice(), 2),
     ] {
-        assert_same(&rt, fault_of(rt.alloc(), file), at(line, Rule::C7));
+        assert_same!(rt; fault_of(rt.alloc(), file), at(line, Rule::C7));
     }
     for file in [
         b"map 01D5 00DC 0304\nmap 00DC 0055 0308\nclass 0304 230".as_slice(),
         b"map 0200 0201 0301\nmap 0201 0061 0316\nclass 0316 220".as_slice(),
     ] {
-        assert_same(&rt, fault_of(rt.alloc(), file), None);
+        assert_same!(rt; fault_of(rt.alloc(), file), None);
     }
 }
 
@@ -197,9 +197,9 @@ fn contradictions(rt: HostRuntime) {
         (b"map FFFD 0400".as_slice(), 1),
         (b"class AC00 0\nclass 1100 1".as_slice(), 2),
     ] {
-        assert_same(&rt, fault_of(rt.alloc(), file), at(line, Rule::C8));
+        assert_same!(rt; fault_of(rt.alloc(), file), at(line, Rule::C8));
     }
-    assert_same(&rt, fault_of(rt.alloc(), b"map 0344 0308 0301 x"), None);
+    assert_same!(rt; fault_of(rt.alloc(), b"map 0344 0308 0301 x"), None);
 }
 
 #[test]
@@ -209,7 +209,7 @@ fn mapped_hangul(rt: HostRuntime) {
         (b"map 0400 AC00".as_slice(), 1),
         (b"map 0400 0401 11FF x".as_slice(), 1),
     ] {
-        assert_same(&rt, fault_of(rt.alloc(), file), at(line, Rule::C9));
+        assert_same!(rt; fault_of(rt.alloc(), file), at(line, Rule::C9));
     }
-    assert_same(&rt, fault_of(rt.alloc(), b"map 0400 0401 1200 x"), None);
+    assert_same!(rt; fault_of(rt.alloc(), b"map 0400 0401 1200 x"), None);
 }

@@ -1,6 +1,6 @@
 //! Entries are written, and what their words name is read.
 
-use assertions::{assert_holds, assert_same};
+use assertions::assert_same;
 use collate_words::entry::{Beside, Entry, SuffixFlags};
 use collate_words::pools::Pools;
 use icu_char16trie::{Char16Trie, TrieResult};
@@ -98,20 +98,20 @@ fn keys_are_sorted_by_units(rt: HostRuntime) -> Result<(), Fail> {
     let alloc = rt.alloc();
     let (word, contexts) = write_contexts(alloc)?;
     let contexts = contexts.as_slice();
-    assert_same(&rt, word & 0xff, 0xc8);
+    assert_same!(rt; word & 0xff, 0xc8);
     let index = (word >> 13) as usize;
-    assert_holds(&rt, index + 1 < contexts.len());
+    assert!(rt; index + 1 < contexts.len());
     let behind = (u32::from(contexts[index]) << 16) + u32::from(contexts[index + 1]);
-    assert_same(&rt, behind & 0x1fff, 0x0cc9);
+    assert_same!(rt; behind & 0x1fff, 0x0cc9);
     let before = value_in(alloc, contexts, index, &[0x79, 0x78])?;
-    assert_same(&rt, before, Some(0x2a10_0505));
-    assert_same(&rt, value_in(alloc, contexts, index, &[0x78, 0x79])?, None);
+    assert_same!(rt; before, Some(0x2a10_0505));
+    assert_same!(rt; value_in(alloc, contexts, index, &[0x78, 0x79])?, None);
     let index = (behind >> 13) as usize;
     let listed = value_in(alloc, contexts, index, &[0xff41])?;
-    assert_same(&rt, listed, Some(0x2a10_0505));
+    assert_same!(rt; listed, Some(0x2a10_0505));
     let empty = value_in(alloc, contexts, index, &[0xd834, 0xdd65])?;
-    assert_same(&rt, empty, Some(0));
-    assert_same(&rt, value_in(alloc, contexts, index, &[0xd834])?, None);
+    assert_same!(rt; empty, Some(0));
+    assert_same!(rt; value_in(alloc, contexts, index, &[0xd834])?, None);
     Ok(())
 }
 
@@ -136,12 +136,8 @@ fn digits_stand_over_their_own_words(rt: HostRuntime) -> Result<(), Fail> {
     let mut pools = Pools::new(alloc);
     let word = pools.write_entry(alloc, &entry)?;
     let (_, ce32s, contexts) = pools.into_lists();
-    assert_same(&rt, word & 0x1fff, 0x07ca);
-    assert_same(
-        &rt,
-        ce32s.get((word >> 13) as usize).copied(),
-        Some(0x2a10_0505),
-    );
-    assert_same(&rt, contexts.len(), 0);
+    assert_same!(rt; word & 0x1fff, 0x07ca);
+    assert_same!(rt; ce32s.get((word >> 13) as usize).copied(), Some(0x2a10_0505));
+    assert_same!(rt; contexts.len(), 0);
     Ok(())
 }

@@ -1,6 +1,5 @@
 //! What setters, defaults and conversions do to options with notes, seen through the getters.
 
-use assertions::{assert_holds, assert_holds_in};
 use icu_collator_types::options::{
     AlternateHandling, CaseLevel, CollationCaseFirst, CollationNumericOrdering, CollatorOptions,
     CollatorOptionsBitField, CollatorPreferences, MaxVariable, ResolvedCollatorOptions, Strength,
@@ -67,10 +66,10 @@ fn changes_one(
     let (old_notes, new_notes) = (without_note(before), without_note(after));
     for at in 0..7 {
         if at == index {
-            assert_holds_in(rt, &index, new_notes[at] != is_given);
+            assert!(rt; new_notes[at] != is_given, "{index}");
         } else {
-            assert_holds_in(rt, &(index, at), !values[at]);
-            assert_holds_in(rt, &(index, at), old_notes[at] == new_notes[at]);
+            assert!(rt; !values[at], "{index} {at}");
+            assert!(rt; old_notes[at] == new_notes[at], "{index} {at}");
         }
     }
 }
@@ -79,7 +78,7 @@ fn changes_one(
 fn sets_strength(rt: &impl Abort, before: CollatorOptionsBitField, value: Option<Strength>) {
     let mut after = before;
     after.set_strength(value);
-    assert_holds(rt, after.strength() == value.unwrap_or(Strength::Primary));
+    assert!(rt; after.strength() == value.unwrap_or(Strength::Primary));
     changes_one(rt, 0, before, after, value.is_some());
 }
 
@@ -103,10 +102,7 @@ fn strength_changes_alone(rt: HostRuntime) {
 fn sets_max_variable(rt: &impl Abort, before: CollatorOptionsBitField, value: Option<MaxVariable>) {
     let mut after = before;
     after.set_max_variable(value);
-    assert_holds(
-        rt,
-        after.max_variable() == value.unwrap_or(MaxVariable::Space),
-    );
+    assert!(rt; after.max_variable() == value.unwrap_or(MaxVariable::Space));
     changes_one(rt, 1, before, after, value.is_some());
 }
 
@@ -133,10 +129,7 @@ fn sets_alternate_handling(
 ) {
     let mut after = before;
     after.set_alternate_handling(value);
-    assert_holds(
-        rt,
-        after.alternate_handling() == value.unwrap_or(AlternateHandling::NonIgnorable),
-    );
+    assert!(rt; after.alternate_handling() == value.unwrap_or(AlternateHandling::NonIgnorable));
     changes_one(rt, 2, before, after, value.is_some());
 }
 
@@ -157,7 +150,7 @@ fn alternate_handling_changes_alone(rt: HostRuntime) {
 fn sets_case_level(rt: &impl Abort, before: CollatorOptionsBitField, value: Option<CaseLevel>) {
     let mut after = before;
     after.set_case_level_from_enum(value);
-    assert_holds(rt, after.case_level() == (value == Some(CaseLevel::On)));
+    assert!(rt; after.case_level() == (value == Some(CaseLevel::On)));
     changes_one(rt, 3, before, after, value.is_some());
 }
 
@@ -178,10 +171,7 @@ fn sets_case_first(
 ) {
     let mut after = before;
     after.set_case_first(value);
-    assert_holds(
-        rt,
-        after.case_first() == value.unwrap_or(CollationCaseFirst::False),
-    );
+    assert!(rt; after.case_first() == value.unwrap_or(CollationCaseFirst::False));
     changes_one(rt, 4, before, after, value.is_some());
 }
 
@@ -207,7 +197,7 @@ fn sets_backward_second_level(
 ) {
     let mut after = before;
     after.set_backward_second_level(value);
-    assert_holds(rt, after.backward_second_level() == value.unwrap_or(false));
+    assert!(rt; after.backward_second_level() == value.unwrap_or(false));
     changes_one(rt, 5, before, after, value.is_some());
 }
 
@@ -228,10 +218,7 @@ fn sets_numeric(
 ) {
     let mut after = before;
     after.set_numeric_from_enum(value);
-    assert_holds(
-        rt,
-        after.numeric() == (value == Some(CollationNumericOrdering::True)),
-    );
+    assert!(rt; after.numeric() == (value == Some(CollationNumericOrdering::True)));
     changes_one(rt, 6, before, after, value.is_some());
 }
 
@@ -251,27 +238,24 @@ fn numeric_changes_alone(rt: HostRuntime) {
 #[test]
 fn options_that_ask_for_nothing_take_the_defaults(rt: HostRuntime) {
     let mut options = CollatorOptionsBitField::from(CollatorOptions::default());
-    assert_holds(&rt, options.strength() == Strength::Primary);
+    assert!(rt; options.strength() == Strength::Primary);
     options.set_defaults(CollatorOptionsBitField::default());
-    assert_holds(&rt, options.strength() == Strength::Tertiary);
+    assert!(rt; options.strength() == Strength::Tertiary);
 }
 
 #[test]
 fn masks_follow_strength_and_case(rt: HostRuntime) {
     let mut options = CollatorOptionsBitField::default();
-    assert_holds(
-        &rt,
-        options.tertiary_mask() == Some(0x3F3F) && !options.upper_first(),
-    );
+    assert!(rt; options.tertiary_mask() == Some(0x3F3F) && !options.upper_first());
     options.set_case_first(Some(CollationCaseFirst::Lower));
-    assert_holds(&rt, options.tertiary_mask() == Some(0xFF3F));
-    assert_holds(&rt, !options.upper_first());
+    assert!(rt; options.tertiary_mask() == Some(0xFF3F));
+    assert!(rt; !options.upper_first());
     options.set_case_first(Some(CollationCaseFirst::Upper));
-    assert_holds(&rt, options.upper_first());
+    assert!(rt; options.upper_first());
     options.set_case_level(Some(true));
-    assert_holds(&rt, options.tertiary_mask() == Some(0x3F3F));
+    assert!(rt; options.tertiary_mask() == Some(0x3F3F));
     options.set_strength(Some(Strength::Secondary));
-    assert_holds(&rt, options.tertiary_mask() == None);
+    assert!(rt; options.tertiary_mask() == None);
 }
 
 #[test]
@@ -279,23 +263,11 @@ fn resolved_options_come_out_again(rt: HostRuntime) {
     let resolved = ResolvedCollatorOptions::from(first_given());
     let asked = CollatorOptions::from(resolved);
     let preferences = CollatorPreferences::from(resolved);
-    assert_holds(&rt, asked.strength == Some(Strength::Primary));
-    assert_holds(
-        &rt,
-        asked.alternate_handling == Some(AlternateHandling::Shifted),
-    );
-    assert_holds(&rt, asked.max_variable == Some(MaxVariable::Punctuation));
-    assert_holds(&rt, asked.case_level == Some(CaseLevel::On));
-    assert_holds(
-        &rt,
-        preferences.locale.is_empty() && preferences.collation_type.is_none(),
-    );
-    assert_holds(
-        &rt,
-        preferences.case_first == Some(CollationCaseFirst::Lower),
-    );
-    assert_holds(
-        &rt,
-        preferences.numeric_ordering == Some(CollationNumericOrdering::True),
-    );
+    assert!(rt; asked.strength == Some(Strength::Primary));
+    assert!(rt; asked.alternate_handling == Some(AlternateHandling::Shifted));
+    assert!(rt; asked.max_variable == Some(MaxVariable::Punctuation));
+    assert!(rt; asked.case_level == Some(CaseLevel::On));
+    assert!(rt; preferences.locale.is_empty() && preferences.collation_type.is_none());
+    assert!(rt; preferences.case_first == Some(CollationCaseFirst::Lower));
+    assert!(rt; preferences.numeric_ordering == Some(CollationNumericOrdering::True));
 }

@@ -3,7 +3,6 @@
 
 use crate::judged::judged;
 use crate::tables::{IMPLICIT, WORDS, changed_trie, data, tables};
-use assertions::assert_holds;
 use icu_collator_core::check::TableFault;
 use icu_collator_core::tables::CollationTables;
 use std::alloc::Global;
@@ -183,20 +182,20 @@ fn are_judged(alloc: Global, rows: &[Row]) -> bool {
 
 #[test]
 fn prefixes(rt: HostRuntime) {
-    assert_holds(&rt, are_judged(rt.alloc(), &PREFIXES));
+    assert!(rt; are_judged(rt.alloc(), &PREFIXES));
 }
 
 #[test]
 fn texts(rt: HostRuntime) {
-    assert_holds(&rt, are_judged(rt.alloc(), &TEXTS));
+    assert!(rt; are_judged(rt.alloc(), &TEXTS));
 }
 
 #[test]
 fn flags(rt: HostRuntime) {
-    assert_holds(&rt, are_judged(rt.alloc(), &FLAGS));
+    assert!(rt; are_judged(rt.alloc(), &FLAGS));
 }
 
 #[test]
 fn digits(rt: HostRuntime) {
-    assert_holds(&rt, are_judged(rt.alloc(), &DIGITS));
+    assert!(rt; are_judged(rt.alloc(), &DIGITS));
 }

@@ -1,7 +1,6 @@
 //! Copies of tables, each equal to what it is made of.
 
 use crate::tables::{FALLBACK, data, letters, reordering, trie};
-use assertions::assert_holds;
 use icu_collator_core::tables::{CollationData, CollationTables};
 use std::alloc::Global;
 
@@ -55,6 +54,6 @@ fn all_parts_are_copied(alloc: Global) -> bool {
 
 #[test]
 fn ok_clone(rt: HostRuntime) {
-    assert_holds(&rt, letters_are_copied(rt.alloc()));
-    assert_holds(&rt, all_parts_are_copied(rt.alloc()));
+    assert!(rt; letters_are_copied(rt.alloc()));
+    assert!(rt; all_parts_are_copied(rt.alloc()));
 }

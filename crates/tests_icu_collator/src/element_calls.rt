@@ -1,6 +1,5 @@
 //! The calls of the reader of elements, in their order.
 
-use assertions::assert_holds;
 use icu_codepointtrie::TrieType;
 use icu_collator_core::checked::CheckedTables;
 use icu_collator_core::elements::CollationElements;
@@ -56,39 +55,36 @@ fn is_read(alloc: Global, text: &str, expected: &[u64]) -> bool {
 
 #[test]
 fn ok_new(rt: HostRuntime) {
-    assert_holds(
-        &rt,
+    assert!(rt;
         is_read(
             rt.alloc(),
             "ab",
-            &[0x2a10_0000_0500_0500, 0x2a20_0000_0500_0500],
-        ),
+            &[0x2a10_0000_0500_0500, 0x2a20_0000_0500_0500]
+        )
     );
-    assert_holds(
-        &rt,
+    assert!(rt;
         is_read(
             rt.alloc(),
             "acb",
-            &[0x2a40_0000_0500_0500, 0x2a20_0000_0500_0500],
-        ),
+            &[0x2a40_0000_0500_0500, 0x2a20_0000_0500_0500]
+        )
     );
 }
 
 #[test]
 fn ok_next(rt: HostRuntime) {
-    assert_holds(
-        &rt,
+    assert!(rt;
         is_read(
             rt.alloc(),
             "db",
-            &[0x2a50_0000_0500_0500, 0x8800_0500, 0x2a20_0000_0500_0500],
-        ),
+            &[0x2a50_0000_0500_0500, 0x8800_0500, 0x2a20_0000_0500_0500,]
+        )
     );
 }
 
 #[test]
 fn ok_init(rt: HostRuntime) {
-    assert_holds(&rt, is_read(rt.alloc(), "", &[]));
+    assert!(rt; is_read(rt.alloc(), "", &[]));
 }
 
 /// Whether the first characters are given before the reading begins, and the others read.
@@ -117,8 +113,8 @@ fn is_given_whole(alloc: Global) -> bool {
 
 #[test]
 fn ok_iter_next_before_init(rt: HostRuntime) {
-    assert_holds(&rt, is_read_behind(rt.alloc()));
-    assert_holds(&rt, is_given_whole(rt.alloc()));
+    assert!(rt; is_read_behind(rt.alloc()));
+    assert!(rt; is_given_whole(rt.alloc()));
 }
 
 /// Whether the last prepended character is read first, and those of the iterator after all of them: "a", "b", then "c".
@@ -154,8 +150,8 @@ fn is_read_with_the_next(alloc: Global) -> bool {
 
 #[test]
 fn ok_prepend_upcoming_before_init(rt: HostRuntime) {
-    assert_holds(&rt, are_read_from_the_last(rt.alloc()));
-    assert_holds(&rt, is_read_with_the_next(rt.alloc()));
+    assert!(rt; are_read_from_the_last(rt.alloc()));
+    assert!(rt; is_read_with_the_next(rt.alloc()));
 }
 
 /// Whether a text's decomposed list has these characters, and the list these elements.
@@ -181,18 +177,17 @@ fn is_read_as_a_list(alloc: Global, text: &str, characters: &[char], expected: &
 
 #[test]
 fn ok_decomposed_list(rt: HostRuntime) {
-    assert_holds(&rt, is_read_as_a_list(rt.alloc(), "", &[], &[]));
+    assert!(rt; is_read_as_a_list(rt.alloc(), "", &[], &[]));
 }
 
 #[test]
 fn ok_list_elements(rt: HostRuntime) {
-    assert_holds(
-        &rt,
+    assert!(rt;
         is_read_as_a_list(
             rt.alloc(),
             "acb",
             &['a', 'c', 'b'],
-            &[0x2a40_0000_0500_0500, 0x2a20_0000_0500_0500],
-        ),
+            &[0x2a40_0000_0500_0500, 0x2a20_0000_0500_0500]
+        )
     );
 }

@@ -1,6 +1,5 @@
 //! What checked tables tell of a character at once, for the fast ways of a comparison.
 
-use assertions::assert_holds;
 use icu_codepointtrie::TrieType;
 use icu_collator_core::checked::CheckedTables;
 use samples_icu_collator::compiled::checked_tables;
@@ -43,32 +42,26 @@ fn is_told(alloc: Global, c: char, expected: [bool; 4]) -> bool {
 
 #[test]
 fn a_letter_alone(rt: HostRuntime) {
-    assert_holds(&rt, is_told(rt.alloc(), 'b', [true, true, true, true]));
+    assert!(rt; is_told(rt.alloc(), 'b', [true, true, true, true]));
 }
 
 #[test]
 fn letters_together(rt: HostRuntime) {
-    assert_holds(&rt, is_told(rt.alloc(), 'a', [false, false, true, true]));
-    assert_holds(&rt, is_told(rt.alloc(), 'c', [true, false, false, true]));
+    assert!(rt; is_told(rt.alloc(), 'a', [false, false, true, true]));
+    assert!(rt; is_told(rt.alloc(), 'c', [true, false, false, true]));
 }
 
 #[test]
 fn a_letter_with_a_prefix(rt: HostRuntime) {
-    assert_holds(&rt, is_told(rt.alloc(), 'd', [false, false, false, false]));
+    assert!(rt; is_told(rt.alloc(), 'd', [false, false, false, false]));
 }
 
 #[test]
 fn a_letter_of_two_bytes(rt: HostRuntime) {
-    assert_holds(
-        &rt,
-        is_told(rt.alloc(), '\u{401}', [true, true, true, true]),
-    );
+    assert!(rt; is_told(rt.alloc(), '\u{401}', [true, true, true, true]));
 }
 
 #[test]
 fn a_letter_beyond_the_notes(rt: HostRuntime) {
-    assert_holds(
-        &rt,
-        is_told(rt.alloc(), '\u{10401}', [true, false, true, true]),
-    );
+    assert!(rt; is_told(rt.alloc(), '\u{10401}', [true, false, true, true]));
 }

@@ -1,6 +1,5 @@
 //! Texts that are read flat.
 
-use assertions::assert_holds;
 use icu_codepointtrie::TrieType;
 use icu_collator_core::checked::CheckedTables;
 use icu_collator_core::flat::{FlatElements, StretchedElements};
@@ -65,9 +64,8 @@ fn is_not_flat(alloc: Global, numeric: Option<u8>, text: &str) -> bool {
 #[test]
 fn ok_read_flat(rt: HostRuntime) {
     let alloc = rt.alloc();
-    assert_holds(&rt, has_elements(alloc, Some(0x10), "", &[]));
-    assert_holds(
-        &rt,
+    assert!(rt; has_elements(alloc, Some(0x10), "", &[]));
+    assert!(rt;
         has_elements(
             alloc,
             Some(0x10),
@@ -75,27 +73,25 @@ fn ok_read_flat(rt: HostRuntime) {
             &[
                 0x2a10_0000_0500_0500,
                 0x2a30_0000_0500_0500,
-                0x2a10_0000_0500_0500,
-            ],
-        ),
+                0x2a10_0000_0500_0500
+            ]
+        )
     );
-    assert_holds(
-        &rt,
+    assert!(rt;
         has_elements(
             alloc,
             None,
             "\u{e0}\u{300}",
-            &[0x2a10_0000_0500_0500, 0x8600_0500, 0x8600_0500],
-        ),
+            &[0x2a10_0000_0500_0500, 0x8600_0500, 0x8600_0500]
+        )
     );
-    assert_holds(
-        &rt,
+    assert!(rt;
         has_elements(
             alloc,
             None,
             "\u{905}\u{300}",
-            &[0x2a70_0000_0500_0500, 0x8600_0500],
-        ),
+            &[0x2a70_0000_0500_0500, 0x8600_0500]
+        )
     );
 }
 
@@ -114,31 +110,26 @@ fn has_stretches(alloc: Global, text: &str, expected: &[u64]) -> bool {
 #[test]
 fn ok_read_stretches(rt: HostRuntime) {
     let alloc = rt.alloc();
-    assert_holds(&rt, has_stretches(alloc, "", &[]));
-    assert_holds(
-        &rt,
+    assert!(rt; has_stretches(alloc, "", &[]));
+    assert!(rt;
         has_stretches(
             alloc,
             "abca",
             &[
                 0x2a10_0000_0500_0500,
                 0x2a40_0000_0500_0500,
-                0x2a10_0000_0500_0500,
-            ],
-        ),
+                0x2a10_0000_0500_0500
+            ]
+        )
     );
-    assert_holds(
-        &rt,
+    assert!(rt;
         has_stretches(
             alloc,
             "a\u{300}\u{316}",
-            &[0x2a10_0000_0500_0500, 0x8800_0500, 0x8600_0500],
-        ),
+            &[0x2a10_0000_0500_0500, 0x8800_0500, 0x8600_0500]
+        )
     );
-    assert_holds(
-        &rt,
-        !has_stretches(alloc, "bcaaa", &[0x2a40_0000_0500_0500]),
-    );
+    assert!(rt; !has_stretches(alloc, "bcaaa", &[0x2a40_0000_0500_0500]));
 }
 
 /// Whether a text is read on in three steps: these elements stand after the first, these after the second, and at its end.
@@ -168,17 +159,15 @@ fn is_read_on(alloc: Global, text: &str, first: &[u64], whole: &[u64]) -> bool {
 #[test]
 fn ok_read_on(rt: HostRuntime) {
     let alloc = rt.alloc();
-    assert_holds(
-        &rt,
+    assert!(rt;
         is_read_on(
             alloc,
             "abc",
             &[0x2a10_0000_0500_0500],
-            &[0x2a10_0000_0500_0500, 0x2a40_0000_0500_0500],
-        ),
+            &[0x2a10_0000_0500_0500, 0x2a40_0000_0500_0500]
+        )
     );
-    assert_holds(
-        &rt,
+    assert!(rt;
         is_read_on(
             alloc,
             "a\u{300}\u{316}a",
@@ -187,33 +176,31 @@ fn ok_read_on(rt: HostRuntime) {
                 0x2a10_0000_0500_0500,
                 0x8800_0500,
                 0x8600_0500,
-                0x2a10_0000_0500_0500,
-            ],
-        ),
+                0x2a10_0000_0500_0500
+            ]
+        )
     );
 }
 
 #[test]
 fn marks_are_read_flat_in_order(rt: HostRuntime) {
     let alloc = rt.alloc();
-    assert_holds(
-        &rt,
+    assert!(rt;
         has_elements(
             alloc,
             None,
             "a\u{316}\u{300}",
-            &[0x2a10_0000_0500_0500, 0x8800_0500, 0x8600_0500],
-        ),
+            &[0x2a10_0000_0500_0500, 0x8800_0500, 0x8600_0500]
+        )
     );
-    assert_holds(&rt, is_not_flat(alloc, None, "a\u{300}\u{316}"));
-    assert_holds(&rt, is_not_flat(alloc, None, "\u{e0}\u{316}"));
+    assert!(rt; is_not_flat(alloc, None, "a\u{300}\u{316}"));
+    assert!(rt; is_not_flat(alloc, None, "\u{e0}\u{316}"));
 }
 
 #[test]
 fn syllables_and_unnamed_characters_are_read_flat(rt: HostRuntime) {
     let alloc = rt.alloc();
-    assert_holds(
-        &rt,
+    assert!(rt;
         has_elements(
             alloc,
             None,
@@ -221,65 +208,61 @@ fn syllables_and_unnamed_characters_are_read_flat(rt: HostRuntime) {
             &[
                 0xfd04_0200_0500_0500,
                 0xfd04_6300_0500_0500,
-                0xfd05_2a00_0500_0500,
-            ],
-        ),
+                0xfd05_2a00_0500_0500
+            ]
+        )
     );
-    assert_holds(
-        &rt,
+    assert!(rt;
         has_elements(
             alloc,
             None,
             "\u{906}\u{4e00}",
-            &[0xfe04_8264_0500_0500, 0xfe08_5f64_0500_0500],
-        ),
+            &[0xfe04_8264_0500_0500, 0xfe08_5f64_0500_0500]
+        )
     );
 }
 
 #[test]
 fn beginnings_of_contractions_are_read_flat_where_a_boundary_follows(rt: HostRuntime) {
     let alloc = rt.alloc();
-    assert_holds(
-        &rt,
+    assert!(rt;
         has_elements(
             alloc,
             None,
             "ba",
-            &[0x2a20_0000_0500_0500, 0x2a10_0000_0500_0500],
-        ),
+            &[0x2a20_0000_0500_0500, 0x2a10_0000_0500_0500]
+        )
     );
-    assert_holds(
-        &rt,
+    assert!(rt;
         has_elements(
             alloc,
             None,
             "ab",
-            &[0x2a10_0000_0500_0500, 0x2a20_0000_0500_0500],
-        ),
+            &[0x2a10_0000_0500_0500, 0x2a20_0000_0500_0500]
+        )
     );
-    assert_holds(&rt, is_not_flat(alloc, None, "bc"));
-    assert_holds(&rt, is_not_flat(alloc, None, "b\u{300}c"));
+    assert!(rt; is_not_flat(alloc, None, "bc"));
+    assert!(rt; is_not_flat(alloc, None, "b\u{300}c"));
 }
 
 #[test]
 fn digits_are_read_flat_without_numbers(rt: HostRuntime) {
-    assert_holds(
-        &rt,
+    assert!(rt;
         has_elements(
             rt.alloc(),
             None,
             "a1",
-            &[0x2a10_0000_0500_0500, 0x0f10_0000_0500_0500],
-        ),
+            &[0x2a10_0000_0500_0500, 0x0f10_0000_0500_0500]
+        )
     );
-    assert_holds(&rt, is_not_flat(rt.alloc(), Some(0x10), "a1"));
+    assert!(rt; is_not_flat(rt.alloc(), Some(0x10), "a1"));
 }
 
 #[test]
 fn other_texts_are_not_read_flat(rt: HostRuntime) {
     let alloc = rt.alloc();
-    assert_holds(&rt, is_not_flat(alloc, None, "abc"));
-    assert_holds(&rt, is_not_flat(alloc, None, "abac"));
-    assert_holds(&rt, is_not_flat(alloc, None, "acac"));
-    assert_holds(&rt, is_not_flat(alloc, None, "ac\u{e0}"));
+    assert!(rt; is_not_flat(alloc, None, "abc"));
+    assert!(rt; is_not_flat(alloc, None, "abac"));
+    assert!(rt; is_not_flat(alloc, None, "acac"));
+    assert!(rt; is_not_flat(alloc, None, "ac\u{e0}"));
 }

@@ -1,6 +1,5 @@
 //! Keys longer than the room that a key has without memory, where spaces are variable and where they aren't.
 
-use assertions::assert_holds;
 use icu_codepointtrie::TrieType;
 use icu_collator::Collator;
 use icu_collator_types::options::{
@@ -109,49 +108,40 @@ fn long_keys_have_each_level(rt: HostRuntime) {
         (b"\x1f\x03\x04", 119),
         (b"\x1c\x01", 1),
     ];
-    assert_holds(&rt, has_key(rt.alloc(), RECORDS, SHIFTED, &text, &key));
+    assert!(rt; has_key(rt.alloc(), RECORDS, SHIFTED, &text, &key));
 }
 
 #[test]
 fn long_keys_have_all_primaries(rt: HostRuntime) {
     let text: [(&[u8], usize); 1] = [(b"a\xcc\x81b c", 120)];
     let key: [(&[u8], usize); 1] = [(b"\x2a\x10\x2a\x20\x03\x04\x2a\x30\x05", 120)];
-    assert_holds(&rt, has_key(rt.alloc(), RECORDS, PRIMARIES, &text, &key));
+    assert!(rt; has_key(rt.alloc(), RECORDS, PRIMARIES, &text, &key));
 }
 
 #[test]
 fn primaries_go_on_where_room_ends(rt: HostRuntime) {
     let text: [(&[u8], usize); 1] = [(b"a ", 257)];
     let key: [(&[u8], usize); 1] = [(b"\x2a\x10", 257)];
-    assert_holds(
-        &rt,
-        has_key(rt.alloc(), RECORDS, SHIFTED_PRIMARIES, &text, &key),
-    );
+    assert!(rt; has_key(rt.alloc(), RECORDS, SHIFTED_PRIMARIES, &text, &key));
 }
 
 #[test]
 fn primaries_go_on_over_the_end_of_room(rt: HostRuntime) {
     let text: [(&[u8], usize); 2] = [(b"c", 1), (b"a ", 255)];
     let key: [(&[u8], usize); 2] = [(b"\x2a\x30\x05", 1), (b"\x2a\x10", 255)];
-    assert_holds(
-        &rt,
-        has_key(rt.alloc(), RECORDS, SHIFTED_PRIMARIES, &text, &key),
-    );
+    assert!(rt; has_key(rt.alloc(), RECORDS, SHIFTED_PRIMARIES, &text, &key));
 }
 
 #[test]
 fn primaries_in_a_run_go_on_where_room_ends(rt: HostRuntime) {
     let text: [(&[u8], usize); 1] = [(b"a\xcc\x81 ", 600)];
     let key: [(&[u8], usize); 2] = [(b"\x2a", 1), (b"\x10", 600)];
-    assert_holds(
-        &rt,
-        has_key(rt.alloc(), COMPRESSED, SHIFTED_PRIMARIES, &text, &key),
-    );
+    assert!(rt; has_key(rt.alloc(), COMPRESSED, SHIFTED_PRIMARIES, &text, &key));
 }
 
 #[test]
 fn primaries_in_a_run_end_before_another_lead(rt: HostRuntime) {
     let text: [(&[u8], usize); 1] = [(b"a\xcc\x81b c", 120)];
     let key: [(&[u8], usize); 2] = [(b"\x2a", 1), (b"\x10\x20\x03\x03\x04\x2a\x30\x05", 120)];
-    assert_holds(&rt, has_key(rt.alloc(), COMPRESSED, PRIMARIES, &text, &key));
+    assert!(rt; has_key(rt.alloc(), COMPRESSED, PRIMARIES, &text, &key));
 }

@@ -4,7 +4,6 @@ use crate::judged::judged;
 use crate::tables::{
     IMPLICIT, TAILORED_DIACRITICS, WORDS, data, letters, reordering, tables, trie,
 };
-use assertions::assert_holds;
 use icu_codepointtrie::{CodePointTrie, CodePointTrieHeader, TrieType};
 use icu_collator_core::check::TableFault;
 use icu_collator_core::tables::{
@@ -69,41 +68,34 @@ const BAD_DIACRITICS: Option<TableFault> = Some(TableFault::Diacritics);
 #[test]
 fn diacritics(rt: HostRuntime) {
     let alloc = rt.alloc();
-    assert_holds(
-        &rt,
-        judged(alloc, with_diacritics(alloc, &SECONDARIES[..79], 0), None),
-    );
-    assert_holds(
-        &rt,
+    assert!(rt; judged(alloc, with_diacritics(alloc, &SECONDARIES[..79], 0), None));
+    assert!(rt;
         judged(
             alloc,
             with_diacritics(alloc, &SECONDARIES[..78], 0),
-            BAD_DIACRITICS,
-        ),
+            BAD_DIACRITICS
+        )
     );
-    assert_holds(
-        &rt,
+    assert!(rt;
         judged(
             alloc,
             with_diacritics(alloc, &SECONDARIES[..78], 0x10),
-            None,
-        ),
+            None
+        )
     );
-    assert_holds(
-        &rt,
+    assert!(rt;
         judged(
             alloc,
             with_diacritics(alloc, &SECONDARIES, 0x10),
-            BAD_DIACRITICS,
-        ),
+            BAD_DIACRITICS
+        )
     );
-    assert_holds(
-        &rt,
+    assert!(rt;
         judged(
             alloc,
             with_diacritics(alloc, &[0x8000, 0x100], 0x10),
-            BAD_DIACRITICS,
-        ),
+            BAD_DIACRITICS
+        )
     );
 }
 
@@ -125,31 +117,18 @@ const BAD_FOURTH_JAMO: Option<TableFault> = Some(TableFault::Jamo(3));
 #[test]
 fn jamo(rt: HostRuntime) {
     let alloc = rt.alloc();
-    assert_holds(&rt, judged(alloc, with_jamo(alloc, &JAMO), None));
-    assert_holds(
-        &rt,
+    assert!(rt; judged(alloc, with_jamo(alloc, &JAMO), None));
+    assert!(rt;
         judged(
             alloc,
             with_jamo(alloc, &JAMO[..255]),
-            Some(TableFault::Jamo(255)),
-        ),
+            Some(TableFault::Jamo(255))
+        )
     );
-    assert_holds(
-        &rt,
-        judged(alloc, with_fourth_jamo(alloc, 0), BAD_FOURTH_JAMO),
-    );
-    assert_holds(
-        &rt,
-        judged(alloc, with_fourth_jamo(alloc, 0x8600_05c2), None),
-    );
-    assert_holds(
-        &rt,
-        judged(alloc, with_fourth_jamo(alloc, 0x8600_05d2), BAD_FOURTH_JAMO),
-    );
-    assert_holds(
-        &rt,
-        judged(alloc, with_fourth_jamo(alloc, 0x8600_05f2), BAD_FOURTH_JAMO),
-    );
+    assert!(rt; judged(alloc, with_fourth_jamo(alloc, 0), BAD_FOURTH_JAMO));
+    assert!(rt; judged(alloc, with_fourth_jamo(alloc, 0x8600_05c2), None));
+    assert!(rt; judged(alloc, with_fourth_jamo(alloc, 0x8600_05d2), BAD_FOURTH_JAMO));
+    assert!(rt; judged(alloc, with_fourth_jamo(alloc, 0x8600_05f2), BAD_FOURTH_JAMO));
 }
 
 /// Tables with a reordering of these leads; `None` where memory is refused.
@@ -184,22 +163,20 @@ fn leads_that_change_places() -> [u8; 256] {
 fn reorderings(rt: HostRuntime) {
     let alloc = rt.alloc();
     let leads = leads_that_change_places();
-    assert_holds(&rt, judged(alloc, with_leads(alloc, &leads), None));
-    assert_holds(
-        &rt,
+    assert!(rt; judged(alloc, with_leads(alloc, &leads), None));
+    assert!(rt;
         judged(
             alloc,
             with_leads(alloc, &[0; 255]),
-            Some(TableFault::Reordering),
-        ),
+            Some(TableFault::Reordering)
+        )
     );
-    assert_holds(
-        &rt,
+    assert!(rt;
         judged(
             alloc,
             with_leads_to_one(alloc),
-            Some(TableFault::Reordering),
-        ),
+            Some(TableFault::Reordering)
+        )
     );
 }
 
@@ -226,22 +203,15 @@ const BAD_GROUPS: Option<TableFault> = Some(TableFault::SpecialPrimaries);
 fn special_primaries(rt: HostRuntime) {
     let alloc = rt.alloc();
     let groups = [0x304, 0x306, 0x308, 0x30a];
-    assert_holds(&rt, judged(alloc, with_groups(alloc, &groups, 0x10), None));
-    assert_holds(
-        &rt,
-        judged(alloc, with_groups(alloc, &groups[..3], 0x10), BAD_GROUPS),
-    );
-    assert_holds(
-        &rt,
-        judged(alloc, with_groups(alloc, &groups, 2), BAD_GROUPS),
-    );
-    assert_holds(
-        &rt,
+    assert!(rt; judged(alloc, with_groups(alloc, &groups, 0x10), None));
+    assert!(rt; judged(alloc, with_groups(alloc, &groups[..3], 0x10), BAD_GROUPS));
+    assert!(rt; judged(alloc, with_groups(alloc, &groups, 2), BAD_GROUPS));
+    assert!(rt;
         judged(
             alloc,
             with_groups(alloc, &[0x306, 0x304, 0x308, 0x30a], 0x10),
-            BAD_GROUPS,
-        ),
+            BAD_GROUPS
+        )
     );
 }
 
@@ -274,12 +244,11 @@ fn with_few_cells(alloc: Global) -> Option<CollationTables<'static>> {
 #[test]
 fn characters_without_a_word(rt: HostRuntime) {
     let alloc = rt.alloc();
-    assert_holds(
-        &rt,
+    assert!(rt;
         judged(
             alloc,
             with_few_cells(alloc),
-            Some(TableFault::Trie('\u{1000}')),
-        ),
+            Some(TableFault::Trie('\u{1000}'))
+        )
     );
 }

@@ -2,7 +2,6 @@
 
 use crate::judged::judged;
 use crate::tables::{FALLBACK, IMPLICIT, WORDS, changed_trie, data, letters, tables, trie};
-use assertions::assert_holds;
 use icu_collator_core::check::TableFault;
 use icu_collator_core::tables::CollationTables;
 use std::alloc::Global;
@@ -84,7 +83,7 @@ fn are_lone_words_judged(alloc: Global) -> bool {
 
 #[test]
 fn ok_try_new(rt: HostRuntime) {
-    assert_holds(&rt, are_lone_words_judged(rt.alloc()));
+    assert!(rt; are_lone_words_judged(rt.alloc()));
 }
 
 /// Words that name a word.
@@ -114,7 +113,7 @@ fn are_listed_words_judged(alloc: Global) -> bool {
 
 #[test]
 fn listed_words(rt: HostRuntime) {
-    assert_holds(&rt, are_listed_words_judged(rt.alloc()));
+    assert!(rt; are_listed_words_judged(rt.alloc()));
 }
 
 /// Elements of 64 bits.
@@ -141,7 +140,7 @@ fn are_elements_judged(alloc: Global) -> bool {
 
 #[test]
 fn elements(rt: HostRuntime) {
-    assert_holds(&rt, are_elements_judged(rt.alloc()));
+    assert!(rt; are_elements_judged(rt.alloc()));
 }
 
 /// Contexts: "ab" with the weights of "l"; the same with a flag less, or more; with a lone half; with a weight that is none;
@@ -199,7 +198,7 @@ fn are_contexts_judged(alloc: Global) -> bool {
 
 #[test]
 fn contexts(rt: HostRuntime) {
-    assert_holds(&rt, are_contexts_judged(rt.alloc()));
+    assert!(rt; are_contexts_judged(rt.alloc()));
 }
 
 /// A branch of five letters, "b" to "f", which all lead to the node after it.
@@ -245,7 +244,7 @@ fn are_levels_judged(alloc: Global) -> bool {
 
 #[test]
 fn shared_nodes(rt: HostRuntime) {
-    assert_holds(&rt, are_levels_judged(rt.alloc()));
+    assert!(rt; are_levels_judged(rt.alloc()));
 }
 
 /// Tables with another word of "b"; `None` where memory is refused.
@@ -258,13 +257,12 @@ fn with_word_of_b(alloc: Global, word: u32) -> Option<CollationTables<'static>> 
 #[test]
 fn bytes_that_begin_others(rt: HostRuntime) {
     let alloc = rt.alloc();
-    assert_holds(
-        &rt,
+    assert!(rt;
         judged(
             alloc,
             with_word_of_b(alloc, 0x2a10_20c1),
-            Some(TableFault::PrefixOfWeight),
-        ),
+            Some(TableFault::PrefixOfWeight)
+        )
     );
-    assert_holds(&rt, judged(alloc, with_word_of_b(alloc, 0x2a20_20c1), None));
+    assert!(rt; judged(alloc, with_word_of_b(alloc, 0x2a20_20c1), None));
 }

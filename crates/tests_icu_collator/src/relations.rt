@@ -2,7 +2,6 @@
 //! of its root.
 
 use crate::root_weights::ROOT_WEIGHTS;
-use assertions::assert_holds;
 use icu_codepointtrie::TrieType;
 use icu_collator::Collator;
 use icu_collator_types::options::{
@@ -106,7 +105,7 @@ fn strengths_tell_letters_then_accents_then_case(rt: HostRuntime) {
         (at_strength(Strength::Secondary), &secondary),
         (at_strength(Strength::Tertiary), &tertiary),
     ];
-    assert_holds(&rt, hold(rt.alloc(), &groups));
+    assert!(rt; hold(rt.alloc(), &groups));
 }
 
 #[test]
@@ -137,7 +136,7 @@ fn shifted_tells_spaces_at_the_fourth_level_alone(rt: HostRuntime) {
         (shifted, &ignored),
         (shifted_to_four, &told),
     ];
-    assert_holds(&rt, hold(rt.alloc(), &groups));
+    assert!(rt; hold(rt.alloc(), &groups));
 }
 
 #[test]
@@ -166,5 +165,5 @@ fn the_case_level_tells_case_behind_accents(rt: HostRuntime) {
         (with_case_level(Strength::Secondary, CaseLevel::On), &both),
         (with_case_level(Strength::Tertiary, CaseLevel::Off), &both),
     ];
-    assert_holds(&rt, hold(rt.alloc(), &groups));
+    assert!(rt; hold(rt.alloc(), &groups));
 }

@@ -1,6 +1,6 @@
 //! What options resolve to, and the numbers of strengths.
 
-use assertions::{assert_holds, assert_holds_in, assert_same};
+use assertions::assert_same;
 use icu_collator_types::options::{
     AlternateHandling, CaseLevel, CollationCaseFirst, CollationNumericOrdering, CollatorOptions,
     CollatorPreferences, FileSettings, MaxVariable, ResolvedCollatorOptions, Strength,
@@ -35,16 +35,13 @@ fn resolves_to(
         && resolved.max_variable == want.max_variable
         && resolved.case_level == want.case_level
         && resolved.numeric == want.numeric;
-    assert_holds_in(rt, &resolved, is_same);
+    assert!(rt; is_same, "{resolved:?}");
 }
 
 #[test]
 fn defaults_resolve_to_tertiary_and_off(rt: HostRuntime) {
     let preferences: CollatorPreferences<'_> = Default::default();
-    assert_holds(
-        &rt,
-        preferences.locale.is_empty() && preferences.collation_type.is_none(),
-    );
+    assert!(rt; preferences.locale.is_empty() && preferences.collation_type.is_none());
     let want = ResolvedCollatorOptions {
         strength: Strength::Tertiary,
         alternate_handling: AlternateHandling::NonIgnorable,
@@ -97,14 +94,11 @@ fn what_is_asked_counts_before_the_file(rt: HostRuntime) {
 
 #[test]
 fn strengths_have_their_numbers(rt: HostRuntime) {
-    assert_same(&rt, Strength::Primary as u8, 0);
-    assert_same(&rt, Strength::Quaternary as u8, 3);
-    assert_same(&rt, Strength::Identical as u8, 7);
-    assert_holds(&rt, Strength::Identical.is_at_least(Strength::Quaternary));
-    assert_holds(&rt, Strength::Secondary.is_at_least(Strength::Secondary));
-    assert_holds(&rt, !Strength::Primary.is_at_least(Strength::Secondary));
-    assert_holds(
-        &rt,
-        AlternateHandling::NonIgnorable < AlternateHandling::Shifted,
-    );
+    assert_same!(rt; Strength::Primary as u8, 0);
+    assert_same!(rt; Strength::Quaternary as u8, 3);
+    assert_same!(rt; Strength::Identical as u8, 7);
+    assert!(rt; Strength::Identical.is_at_least(Strength::Quaternary));
+    assert!(rt; Strength::Secondary.is_at_least(Strength::Secondary));
+    assert!(rt; !Strength::Primary.is_at_least(Strength::Secondary));
+    assert!(rt; AlternateHandling::NonIgnorable < AlternateHandling::Shifted);
 }

@@ -1,7 +1,7 @@
 //! Keys that ICU4X's own tests ask for, over weights of the root.
 
 use crate::root_weights::ROOT_WEIGHTS;
-use assertions::{assert_holds, assert_same};
+use assertions::assert_same;
 use icu_codepointtrie::TrieType;
 use icu_collator::{Collator, KeyError, TooSmall};
 use icu_collator_types::options::{CaseLevel, CollatorOptions, CollatorPreferences, Strength};
@@ -87,7 +87,7 @@ fn length_told(alloc: Global, units: &[u16]) -> Option<usize> {
 #[test]
 fn sort_key_utf16_slice_too_small(rt: HostRuntime) {
     let hello = [0x68, 0x65, 0x6c, 0x6c, 0x6f];
-    assert_same(&rt, length_told(rt.alloc(), &hello), Some(24));
+    assert_same!(rt; length_told(rt.alloc(), &hello), Some(24));
 }
 
 /// The key of the empty text, over those weights.
@@ -99,10 +99,7 @@ fn empty_key(alloc: Global, options: CollatorOptions) -> Option<Vec<u8>> {
 #[test]
 fn sort_key_case_level_empty(rt: HostRuntime) {
     let key = empty_key(rt.alloc(), WITH_CASE);
-    assert_holds(
-        &rt,
-        key.is_some_and(|key| key.as_slice() == [1, 1, 1, 1, 1].as_slice()),
-    );
+    assert!(rt; key.is_some_and(|key| key.as_slice() == [1, 1, 1, 1, 1].as_slice()));
 }
 
 /// Whether keys rise in each of some rows of texts, over those weights.
@@ -128,5 +125,5 @@ fn sort_key_fffe_bug_6811(rt: HostRuntime) {
     ];
     let among_zeros: [&[u16]; 3] = [&[0xfffe, 0, 0], &[0, 0xfffe, 0], &[0, 0, 0xfffe]];
     let rows: [&[&[u16]]; 2] = [&among_three, &among_zeros];
-    assert_holds(&rt, rows_rise(rt.alloc(), &rows));
+    assert!(rt; rows_rise(rt.alloc(), &rows));
 }

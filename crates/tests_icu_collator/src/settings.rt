@@ -1,7 +1,6 @@
 //! What the bits of metadata say, which leads are compressible, and what stands in the place of primaries.
 
 use crate::tables::reordering;
-use assertions::assert_holds;
 use icu_collator_core::tables::{
     CollationMetadata, CollationReordering, CollationSpecialPrimaries,
 };
@@ -48,19 +47,10 @@ fn has_flags(bits: u32, flags: [bool; 6]) -> bool {
 
 #[test]
 fn metadata_bits(rt: HostRuntime) {
-    assert_holds(&rt, all_have_options());
-    assert_holds(
-        &rt,
-        has_flags(0x8, [true, false, false, false, false, false]),
-    );
-    assert_holds(
-        &rt,
-        has_flags(0x50, [false, true, false, true, false, false]),
-    );
-    assert_holds(
-        &rt,
-        has_flags(0x1a0, [false, false, true, false, true, true]),
-    );
+    assert!(rt; all_have_options());
+    assert!(rt; has_flags(0x8, [true, false, false, false, false, false]));
+    assert!(rt; has_flags(0x50, [false, true, false, true, false, false]));
+    assert!(rt; has_flags(0x1a0, [false, false, true, false, true, true]));
 }
 
 /// Whether leads are compressible by these words after the groups, or by none.
@@ -102,11 +92,8 @@ const USUAL_LEADS: [(u8, bool); 5] = [
 
 #[test]
 fn compressible_leads(rt: HostRuntime) {
-    assert_holds(&rt, are_compressible(rt.alloc(), &WITH_LEADS, &LEADS));
-    assert_holds(
-        &rt,
-        are_compressible(rt.alloc(), &WITHOUT_LEADS, &USUAL_LEADS),
-    );
+    assert!(rt; are_compressible(rt.alloc(), &WITH_LEADS, &LEADS));
+    assert!(rt; are_compressible(rt.alloc(), &WITHOUT_LEADS, &USUAL_LEADS));
 }
 
 /// Whether primaries stand in the place of others.
@@ -139,5 +126,5 @@ fn all_are_reordered(alloc: Global) -> bool {
 
 #[test]
 fn reordered_primaries(rt: HostRuntime) {
-    assert_holds(&rt, all_are_reordered(rt.alloc()));
+    assert!(rt; all_are_reordered(rt.alloc()));
 }

@@ -1,7 +1,6 @@
 //! Contexts whose nodes many jumps share: few units that spell many texts of halves of characters, or of marks.
 
 use crate::refusals::{Change, is_judged};
-use assertions::assert_holds;
 use icu_collator_core::check::TableFault;
 use std::alloc::{AllocError, Global};
 
@@ -81,21 +80,15 @@ fn are_all_halves_judged(alloc: Global) -> bool {
 
 #[test]
 fn shared_halves(rt: HostRuntime) {
-    assert_holds(&rt, are_all_halves_judged(rt.alloc()));
+    assert!(rt; are_all_halves_judged(rt.alloc()));
 }
 
 /// The flag that one text holds a starter is not set, or the one that each begins with a mark: of starters that is wrong.
 #[test]
 fn flags_of_shared_halves(rt: HostRuntime) {
     let value = [0xffff, 0x2ac0, 0x505];
-    assert_holds(
-        &rt,
-        are_halves_judged(rt.alloc(), 0xc9, 14, &value, BAD_CONTEXT),
-    );
-    assert_holds(
-        &rt,
-        are_halves_judged(rt.alloc(), 0xac9, 14, &value, BAD_CONTEXT),
-    );
+    assert!(rt; are_halves_judged(rt.alloc(), 0xc9, 14, &value, BAD_CONTEXT));
+    assert!(rt; are_halves_judged(rt.alloc(), 0xac9, 14, &value, BAD_CONTEXT));
 }
 
 /// A branch of three marks, which all lead to the node after it.
@@ -130,8 +123,8 @@ fn are_marks_judged(alloc: Global, without: usize, expected: Option<TableFault>)
 /// Each text of marks has to be recorded without its last.
 #[test]
 fn texts_without_their_last_mark(rt: HostRuntime) {
-    assert_holds(&rt, are_marks_judged(rt.alloc(), 0, None));
+    assert!(rt; are_marks_judged(rt.alloc(), 0, None));
     for without in 1..7usize {
-        assert_holds(&rt, are_marks_judged(rt.alloc(), without, BAD_CONTEXT));
+        assert!(rt; are_marks_judged(rt.alloc(), without, BAD_CONTEXT));
     }
 }

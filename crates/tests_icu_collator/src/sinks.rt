@@ -2,7 +2,6 @@
 
 ghost use Rattle.std.specs.Prelude.{◌≤◌};
 
-use assertions::assert_holds;
 use icu_collator::{CollationKeySink, TooSmall};
 use smallvec::SmallVec;
 use std::alloc::Global;
@@ -51,17 +50,17 @@ fn queue_holds_key(alloc: Global) -> bool {
 
 #[test]
 fn ok_write(rt: HostRuntime) {
-    assert_holds(&rt, vector_holds_key(rt.alloc()));
+    assert!(rt; vector_holds_key(rt.alloc()));
 }
 
 #[test]
 fn ok_write_byte(rt: HostRuntime) {
-    assert_holds(&rt, inline_vector_holds_key(rt.alloc()));
+    assert!(rt; inline_vector_holds_key(rt.alloc()));
 }
 
 #[test]
 fn ok_finish(rt: HostRuntime) {
-    assert_holds(&rt, queue_holds_key(rt.alloc()));
+    assert!(rt; queue_holds_key(rt.alloc()));
 }
 
 /// Writes the key to a slice of some length, and says what came, and what the slice and a byte after it are then.
@@ -76,18 +75,12 @@ fn written(length: usize) -> (Result<usize, TooSmall>, [u8; 5])
 
 #[test]
 fn slices_take_keys_that_fit(rt: HostRuntime) {
-    assert_holds(&rt, written(4) == (Ok(3), *b"key\x09\x09"));
-    assert_holds(&rt, written(3) == (Ok(3), *b"key\x09\x09"));
+    assert!(rt; written(4) == (Ok(3), *b"key\x09\x09"));
+    assert!(rt; written(3) == (Ok(3), *b"key\x09\x09"));
 }
 
 #[test]
 fn short_slices_tell_the_whole_length(rt: HostRuntime) {
-    assert_holds(
-        &rt,
-        written(2) == (Err(TooSmall::new(3)), *b"ke\x09\x09\x09"),
-    );
-    assert_holds(
-        &rt,
-        written(0) == (Err(TooSmall::new(3)), *b"\x09\x09\x09\x09\x09"),
-    );
+    assert!(rt; written(2) == (Err(TooSmall::new(3)), *b"ke\x09\x09\x09"));
+    assert!(rt; written(0) == (Err(TooSmall::new(3)), *b"\x09\x09\x09\x09\x09"));
 }

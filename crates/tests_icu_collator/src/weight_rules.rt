@@ -14,8 +14,8 @@ fn told(alloc: Global, weights: &[u32]) -> Option<bool> {
 fn ok_are_apart(rt: HostRuntime) {
     // 2A 10 begins 2A 10 20, which stands before it.
     let begun = [0x2a10_2000, 0x2b00_0000, 0x2a10_0000];
-    assert_same(&rt, told(rt.alloc(), &begun), Some(false));
+    assert_same!(rt; told(rt.alloc(), &begun), Some(false));
     // A weight and itself keep apart, and so do 2A 10 and 2A 11 20; 0 is none.
     let apart = [0x2a11_2000, 0x2a10_0000, 0x2a10_0000, 0];
-    assert_same(&rt, told(rt.alloc(), &apart), Some(true));
+    assert_same!(rt; told(rt.alloc(), &apart), Some(true));
 }

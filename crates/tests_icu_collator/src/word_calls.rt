@@ -1,6 +1,5 @@
 //! The calls on words and elements, at words worked by hand.
 
-use assertions::{assert_holds, assert_holds_in};
 use icu_codepointtrie::{CodePointTrieBuilder, TrieType};
 use icu_collator_types::elements::{
     AnyQuaternaryAccumulator, CharacterAndClass, CharacterAndClassAndTrieValue, CollationElement,
@@ -12,15 +11,14 @@ use std::process::Abort;
 // Asserts which element a word states by itself.
 fn states(rt: &impl Abort, word: u32, want: Option<u64>) {
     let element = CollationElement32::new(word).to_ce_self_contained();
-    assert_holds_in(rt, &word, element == want.map(CollationElement::new));
+    assert!(rt; element == want.map(CollationElement::new), "{word:x}");
 }
 
 // Asserts the tag of a word.
 fn is_tagged(rt: &impl Abort, word: u32, want: Option<Tag>) {
-    assert_holds_in(
-        rt,
-        &word,
+    assert!(rt;
         CollationElement32::new(word).tag_checked() == want,
+        "{word:x}"
     );
 }
 
@@ -35,27 +33,18 @@ fn words_state_elements(rt: HostRuntime) {
     states(&rt, 0x0000_21c5, None);
     states(&rt, 0x0000_00d1, None);
     let bytes = [0x05, 0x05, 0x10, 0x2a];
-    assert_holds(
-        &rt,
-        CollationElement32::new_from_ule(bytes) == CollationElement32::new(0x2a10_0505),
-    );
+    assert!(rt; CollationElement32::new_from_ule(bytes) == CollationElement32::new(0x2a10_0505));
     states(&rt, 1, Some(0x0100));
-    assert_holds(
-        &rt,
-        CollationElement32::default() == CollationElement32::new(1),
-    );
+    assert!(rt; CollationElement32::default() == CollationElement32::new(1));
 }
 
 #[test]
 fn row_of_a_simple_word(rt: HostRuntime) {
     if let Some(element) = CollationElement32::new(0x2a10_0505).to_ce_simple_or_long_primary() {
-        assert_holds(
-            &rt,
-            element.primary() == 0x2a10_0000 && element.secondary() == 0x0500,
-        );
-        assert_holds(&rt, element.non_primary().tertiary() == 0x0500);
+        assert!(rt; element.primary() == 0x2a10_0000 && element.secondary() == 0x0500);
+        assert!(rt; element.non_primary().tertiary() == 0x0500);
     } else {
-        assert_holds(&rt, false);
+        assert!(rt; false);
     }
 }
 
@@ -72,9 +61,9 @@ fn special_words_have_tags(rt: HostRuntime) {
 #[test]
 fn special_words_name_indices(rt: HostRuntime) {
     let expansion = CollationElement32::new(0x0001_a3c5);
-    assert_holds(&rt, expansion.len() == 3 && expansion.index() == 13);
+    assert!(rt; expansion.len() == 3 && expansion.index() == 13);
     let digit = CollationElement32::new(0x0000_49ca);
-    assert_holds(&rt, digit.digit() == 9 && digit.index() == 2);
+    assert!(rt; digit.digit() == 9 && digit.index() == 2);
 }
 
 // What a word says by its tag, for which each call's condition is read off the tag.
@@ -90,64 +79,49 @@ fn says(word: CollationElement32) -> usize {
 
 #[test]
 fn conditions_are_read_off_the_tag(rt: HostRuntime) {
-    assert_holds(&rt, says(CollationElement32::new(0x0001_a3c6)) == 3);
-    assert_holds(&rt, says(CollationElement32::new(0x0001_a0ce)) == 13);
-    assert_holds(&rt, says(CollationElement32::new(0x0000_49ca)) == 9);
-    assert_holds(&rt, says(CollationElement32::new(0x0000_02c9)) == 1);
-    assert_holds(&rt, says(CollationElement32::new(0x2a10_0505)) == 100);
+    assert!(rt; says(CollationElement32::new(0x0001_a3c6)) == 3);
+    assert!(rt; says(CollationElement32::new(0x0001_a0ce)) == 13);
+    assert!(rt; says(CollationElement32::new(0x0000_49ca)) == 9);
+    assert!(rt; says(CollationElement32::new(0x0000_02c9)) == 1);
+    assert!(rt; says(CollationElement32::new(0x2a10_0505)) == 100);
 }
 
 #[test]
 fn contractions_have_flags(rt: HostRuntime) {
     let marks = CollationElement32::new(0x06c9);
-    assert_holds(&rt, marks.every_suffix_starts_with_combining());
-    assert_holds(&rt, marks.at_least_one_suffix_ends_with_non_starter());
-    assert_holds(&rt, !marks.at_least_one_suffix_contains_starter());
+    assert!(rt; marks.every_suffix_starts_with_combining());
+    assert!(rt; marks.at_least_one_suffix_ends_with_non_starter());
+    assert!(rt; !marks.at_least_one_suffix_contains_starter());
 }
 
 #[test]
 fn elements_have_weights(rt: HostRuntime) {
     let element = CollationElement::new(0x2a10_0000_8600_8540);
-    assert_holds(
-        &rt,
-        element.primary() == 0x2a10_0000 && element.secondary() == 0x8600,
-    );
-    assert_holds(
-        &rt,
-        element.quaternary() == 0xffff_ff7f && !element.tertiary_ignorable(),
-    );
+    assert!(rt; element.primary() == 0x2a10_0000 && element.secondary() == 0x8600);
+    assert!(rt; element.quaternary() == 0xffff_ff7f && !element.tertiary_ignorable());
     let lower = element.non_primary();
-    assert_holds(&rt, lower.case() == 0x8000 && lower.tertiary() == 0x0500);
-    assert_holds(&rt, lower.case_quaternary() == 0x8040 && !lower.ignorable());
-    assert_holds(&rt, lower.tertiary_case_quarternary(0x3f3f) == 0x0500);
-    assert_holds(
-        &rt,
-        element.clone_with_non_primary_zeroed().either_half_zero(),
-    );
+    assert!(rt; lower.case() == 0x8000 && lower.tertiary() == 0x0500);
+    assert!(rt; lower.case_quaternary() == 0x8040 && !lower.ignorable());
+    assert!(rt; lower.tertiary_case_quarternary(0x3f3f) == 0x0500);
+    assert!(rt; element.clone_with_non_primary_zeroed().either_half_zero());
 }
 
 #[test]
 fn elements_are_made(rt: HostRuntime) {
     let unnamed = CollationElement::new_implicit_from_char('z');
-    assert_holds(
-        &rt,
-        unnamed == CollationElement::new_from_primary(0xfe04_08d4),
-    );
+    assert!(rt; unnamed == CollationElement::new_from_primary(0xfe04_08d4));
     let accent = CollationElement::new_from_secondary(0x8600);
-    assert_holds(&rt, accent == CollationElement::new(0x8600_0500));
-    assert_holds(
-        &rt,
-        CollationElement::default().non_primary() == NonPrimary::default(),
-    );
+    assert!(rt; accent == CollationElement::new(0x8600_0500));
+    assert!(rt; CollationElement::default().non_primary() == NonPrimary::default());
 }
 
 #[test]
 fn quaternaries_are_found(rt: HostRuntime) {
     let mut any = AnyQuaternaryAccumulator::new();
     any.accumulate(NonPrimary::new(0x0500_0500));
-    assert_holds(&rt, !any.has_quaternary());
+    assert!(rt; !any.has_quaternary());
     any.accumulate(NonPrimary::new(0x0500_0540));
-    assert_holds(&rt, any.has_quaternary());
+    assert!(rt; any.has_quaternary());
 }
 
 // Whether a character is this one, of this class, whatever its word.
@@ -161,15 +135,9 @@ fn is_of_class(found: CharacterAndClassAndTrieValue, c: char, class: u8) -> bool
 #[test]
 fn characters_have_classes(rt: HostRuntime) {
     let mark = CharacterAndClassAndTrieValue::new_with_trie_val('\u{301}', 0xc000_d8e6);
-    assert_holds(
-        &rt,
-        is_of_class(mark, '\u{301}', 230) && mark.decomposition_starts_with_non_starter(),
-    );
+    assert!(rt; is_of_class(mark, '\u{301}', 230) && mark.decomposition_starts_with_non_starter());
     let special = CharacterAndClassAndTrieValue::new_with_trie_val('\u{344}', 0xd9e6);
-    assert_holds(
-        &rt,
-        is_of_class(special, '\u{344}', 0xff) && special.character() == '\u{344}',
-    );
+    assert!(rt; is_of_class(special, '\u{344}', 0xff) && special.character() == '\u{344}');
 }
 
 // Whether a trie that says class 230 of all characters gives it where none is known, and there alone.
@@ -189,5 +157,5 @@ fn trie_gives_class(alloc: Global) -> bool {
 
 #[test]
 fn tries_give_classes(rt: HostRuntime) {
-    assert_holds(&rt, trie_gives_class(rt.alloc()));
+    assert!(rt; trie_gives_class(rt.alloc()));
 }

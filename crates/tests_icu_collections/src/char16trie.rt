@@ -1,6 +1,6 @@
 //! Cursors of unit tries: their answers on tries written by hand, and on units that break the grammar.
 
-use assertions::{assert_holds, assert_same};
+use assertions::assert_same;
 use icu_collections::char16trie::{Char16Trie, TrieResult};
 use icu_collections_sets::packed_vector::PackedVec;
 use std::alloc::{AllocError, Global};
@@ -68,7 +68,7 @@ const A_AND_AB: &[&[(Typed, TrieResult)]] = &[
 
 #[test]
 fn a_key_that_begins_another(rt: HostRuntime) {
-    assert_holds(&rt, has_rows(rt.alloc(), &LINEAR, A_AND_AB));
+    assert!(rt; has_rows(rt.alloc(), &LINEAR, A_AND_AB));
 }
 
 const A_ALONE: &[&[(Typed, TrieResult)]] = &[
@@ -81,7 +81,7 @@ const A_ALONE: &[&[(Typed, TrieResult)]] = &[
 
 #[test]
 fn a_single_key(rt: HostRuntime) {
-    assert_holds(&rt, has_rows(rt.alloc(), &[0x30, 0x61, 0x8005], A_ALONE));
+    assert!(rt; has_rows(rt.alloc(), &[0x30, 0x61, 0x8005], A_ALONE));
 }
 
 const A_TO_F: &[&[(Typed, TrieResult)]] = &[
@@ -101,7 +101,7 @@ fn a_branch_of_six(rt: HostRuntime) {
         5, 100, 6, 100, 0x8004, 101, 0x8005, 102, 0x8006, 97, 0x8001, 98, 0x8002, 99, 0xffff,
         0xffff, 0xffff,
     ];
-    assert_holds(&rt, has_rows(rt.alloc(), &units, A_TO_F));
+    assert!(rt; has_rows(rt.alloc(), &units, A_TO_F));
 }
 
 const AC: &[&[(Typed, TrieResult)]] = &[&[
@@ -112,7 +112,7 @@ const AC: &[&[(Typed, TrieResult)]] = &[&[
 #[test]
 fn a_jump_to_a_node(rt: HostRuntime) {
     let units = [1, 0x61, 2, 0x62, 0x8002, 0x30, 0x63, 0x8003];
-    assert_holds(&rt, has_rows(rt.alloc(), &units, AC));
+    assert!(rt; has_rows(rt.alloc(), &units, AC));
 }
 
 const A_FACE: &[&[(Typed, TrieResult)]] = &[
@@ -127,10 +127,7 @@ const A_FACE: &[&[(Typed, TrieResult)]] = &[
 
 #[test]
 fn a_character_of_two_units(rt: HostRuntime) {
-    assert_holds(
-        &rt,
-        has_rows(rt.alloc(), &[0x31, 0xd83d, 0xde00, 0x8007], A_FACE),
-    );
+    assert!(rt; has_rows(rt.alloc(), &[0x31, 0xd83d, 0xde00, 0x8007], A_FACE));
 }
 
 /// Whether a trie is equal to that of these units, or is another.
@@ -159,7 +156,7 @@ fn linear_is_copied(alloc: Global) -> bool {
 
 #[test]
 fn ok_clone(rt: HostRuntime) {
-    assert_holds(&rt, linear_is_copied(rt.alloc()));
+    assert!(rt; linear_is_copied(rt.alloc()));
 }
 
 /// What a cursor, and a copy of it, answer to b after a.
@@ -182,7 +179,7 @@ fn copies_find(alloc: Global) -> bool {
 
 #[test]
 fn cursors_are_copied(rt: HostRuntime) {
-    assert_holds(&rt, copies_find(rt.alloc()));
+    assert!(rt; copies_find(rt.alloc()));
 }
 
 /// Whether a trie prints as this.
@@ -212,7 +209,7 @@ fn units_print(alloc: Global, text: &str, front: &str) -> bool {
 #[test]
 fn tries_and_cursors_printed(rt: HostRuntime) {
     let text = "Char16Trie { units: [48, 97, 176] }";
-    assert_holds(&rt, units_print(rt.alloc(), text, "Char16TrieIterator"));
+    assert!(rt; units_print(rt.alloc(), text, "Char16TrieIterator"));
 }
 
 /// Units that no trie has.
@@ -242,5 +239,5 @@ fn first_found(alloc: Global) -> Option<&'static [u16]> {
 
 #[test]
 fn units_that_break_the_grammar(rt: HostRuntime) {
-    assert_same(&rt, first_found(rt.alloc()), None);
+    assert_same!(rt; first_found(rt.alloc()), None);
 }

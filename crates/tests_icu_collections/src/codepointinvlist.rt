@@ -1,5 +1,5 @@
 //! Tests of sets of code points.
-use assertions::{assert_holds, assert_same};
+use assertions::assert_same;
 use icu_collections_sets::codepointinvlist::{
     CodePointInversionList, FromRangeError, RangeError, SetError,
 };
@@ -46,16 +46,15 @@ fn comes_back(alloc: Global, list: &[u32]) -> bool {
 
 #[test]
 fn lists_that_are_none(rt: HostRuntime) {
-    assert_holds(&rt, comes_back(rt.alloc(), &[0x42, 0x41]));
-    assert_holds(
-        &rt,
+    assert!(rt; comes_back(rt.alloc(), &[0x42, 0x41]));
+    assert!(rt;
         make_sets(
             rt.alloc(),
             &[&[0x41, 0x42, 0x43], &[0x41, 0x11_0001]],
-            false,
-        ),
+            false
+        )
     );
-    assert_holds(&rt, make_sets(rt.alloc(), &[&[0x41, 0x11_0000]], true));
+    assert!(rt; make_sets(rt.alloc(), &[&[0x41, 0x11_0000]], true));
 }
 
 /// Whether the set holds each of these code points, or none of them.
@@ -127,7 +126,7 @@ fn makes_two_ranges(alloc: Global) -> bool {
 
 #[test]
 fn ok_try_from_u32_inversion_list_slice(rt: HostRuntime) {
-    assert_holds(&rt, makes_two_ranges(rt.alloc()));
+    assert!(rt; makes_two_ranges(rt.alloc()));
 }
 
 /// Whether a set holds all of the set of a list, or is known not to.
@@ -153,14 +152,8 @@ fn holds_set(alloc: Global, outer: &[u32], inner: &[u32], expected: bool) -> boo
 
 #[test]
 fn sets_in_sets(rt: HostRuntime) {
-    assert_holds(
-        &rt,
-        holds_set(rt.alloc(), &[0x41, 0x46], &[0x41, 0x44], true),
-    );
-    assert_holds(
-        &rt,
-        holds_set(rt.alloc(), &[0x41, 0x46], &[0x41, 0x47], false),
-    );
+    assert!(rt; holds_set(rt.alloc(), &[0x41, 0x46], &[0x41, 0x44], true));
+    assert!(rt; holds_set(rt.alloc(), &[0x41, 0x46], &[0x41, 0x47], false));
 }
 
 /// Whether the set of all code points holds that of the first plane.
@@ -175,8 +168,8 @@ fn count_all() -> usize {
 
 #[test]
 fn all_code_points(rt: HostRuntime) {
-    assert_holds(&rt, all_hold_bmp());
-    assert_same(&rt, count_all(), 0x11_0000);
+    assert!(rt; all_hold_bmp());
+    assert_same!(rt; count_all(), 0x11_0000);
 }
 
 /// Whether no set is made of the characters from the first to before the last, for this reason.
@@ -203,8 +196,8 @@ fn has_range_of(alloc: Global, (first, last): (char, char), held: char, other: c
 #[test]
 fn ok_try_from_range(rt: HostRuntime) {
     let refused = FromRangeError::Range(RangeError(65, 65));
-    assert_holds(&rt, is_refused(rt.alloc(), 'A', 'A', refused));
-    assert_holds(&rt, has_range_of(rt.alloc(), ('A', 'E'), 'E', 'F'));
+    assert!(rt; is_refused(rt.alloc(), 'A', 'A', refused));
+    assert!(rt; has_range_of(rt.alloc(), ('A', 'E'), 'E', 'F'));
 }
 
 /// Whether the set of the range of all characters is made, and is that of all code points.
@@ -217,7 +210,7 @@ fn has_range_of_all(alloc: Global) -> bool {
 
 #[test]
 fn the_range_of_all(rt: HostRuntime) {
-    assert_holds(&rt, has_range_of_all(rt.alloc()));
+    assert!(rt; has_range_of_all(rt.alloc()));
 }
 
 /// Whether the list of the set of all code points is this.
@@ -230,7 +223,7 @@ fn all_have_edges(alloc: Global, edges: &[u32]) -> bool {
 
 #[test]
 fn ok_get_inversion_list_vec(rt: HostRuntime) {
-    assert_holds(&rt, all_have_edges(rt.alloc(), &[0, 0x11_0000]));
+    assert!(rt; all_have_edges(rt.alloc(), &[0, 0x11_0000]));
 }
 
 /// Whether a set is equal to its copy.
@@ -248,7 +241,7 @@ fn all_are_copied(alloc: Global) -> bool {
 
 #[test]
 fn ok_clone(rt: HostRuntime) {
-    assert_holds(&rt, all_are_copied(rt.alloc()));
+    assert!(rt; all_are_copied(rt.alloc()));
 }
 
 /// Whether the set of the first plane is the same when it is owned.
@@ -261,7 +254,7 @@ fn bmp_is_owned(alloc: Global) -> bool {
 
 #[test]
 fn ok_into_owned(rt: HostRuntime) {
-    assert_holds(&rt, bmp_is_owned(rt.alloc()));
+    assert!(rt; bmp_is_owned(rt.alloc()));
 }
 
 /// Whether the ranges of a set have these ends, one after another.
@@ -312,7 +305,7 @@ fn letters_have_ends(alloc: Global) -> bool {
 
 #[test]
 fn ranges_of_a_set(rt: HostRuntime) {
-    assert_holds(&rt, letters_have_ends(rt.alloc()));
+    assert!(rt; letters_have_ends(rt.alloc()));
 }
 
 /// Whether those of all code points do.
@@ -322,7 +315,7 @@ fn all_have_ends() -> bool {
 
 #[test]
 fn ranges_of_all(rt: HostRuntime) {
-    assert_holds(&rt, all_have_ends());
+    assert!(rt; all_have_ends());
 }
 
 /// Whether a set has these characters.
@@ -373,8 +366,8 @@ fn first_with_others(alloc: Global) -> Option<usize> {
 
 #[test]
 fn characters_of_a_set(rt: HostRuntime) {
-    assert_same(&rt, first_with_others(rt.alloc()), None);
-    assert_holds(&rt, count_characters() == 0x10_F800);
+    assert_same!(rt; first_with_others(rt.alloc()), None);
+    assert!(rt; count_characters() == 0x10_F800);
 }
 
 /// Texts, whether what is held is asked for, and where the longest stretch from the front ends.
@@ -426,7 +419,7 @@ fn letters_have_spans(alloc: Global) -> bool {
 
 #[test]
 fn stretches_of_texts(rt: HostRuntime) {
-    assert_holds(&rt, letters_have_spans(rt.alloc()));
+    assert!(rt; letters_have_spans(rt.alloc()));
 }
 
 /// Whether a set prints as this.
@@ -448,7 +441,7 @@ fn list_prints(alloc: Global, list: &[u32], text: &str) -> bool {
 #[test]
 fn a_set_printed(rt: HostRuntime) {
     let text = "CodePointInversionList { edges: [65, 67] }";
-    assert_holds(&rt, list_prints(rt.alloc(), &[0x41, 0x43], text));
+    assert!(rt; list_prints(rt.alloc(), &[0x41, 0x43], text));
 }
 
 /// Whether an error is shown as this.
@@ -469,10 +462,7 @@ fn refusal_is_shown(alloc: Global, list: &[u32], text: &str) -> bool {
 
 #[test]
 fn a_refused_list_printed(rt: HostRuntime) {
-    assert_holds(
-        &rt,
-        refusal_is_shown(rt.alloc(), &[0x42, 0x41], "Invalid set: [66, 65]"),
-    );
+    assert!(rt; refusal_is_shown(rt.alloc(), &[0x42, 0x41], "Invalid set: [66, 65]"));
 }
 
 /// Whether a refused range is shown as this.
@@ -485,10 +475,7 @@ fn range_is_shown(alloc: Global, error: RangeError, text: &str) -> bool {
 
 #[test]
 fn a_refused_range_printed(rt: HostRuntime) {
-    assert_holds(
-        &rt,
-        range_is_shown(rt.alloc(), RangeError(65, 65), "Invalid range: 65..65"),
-    );
+    assert!(rt; range_is_shown(rt.alloc(), RangeError(65, 65), "Invalid range: 65..65"));
 }
 
 /// How many ranges are still to come, whether there is a first, and how many are to come then.
@@ -506,5 +493,5 @@ fn first_of_bmp() -> (usize, bool, usize) {
 
 #[test]
 fn how_many_ranges_are_left(rt: HostRuntime) {
-    assert_holds(&rt, first_of_bmp() == (1, true, 0));
+    assert!(rt; first_of_bmp() == (1, true, 0));
 }

@@ -1,5 +1,5 @@
 //! Tests of sets of code points and strings.
-use assertions::{assert_holds, assert_same};
+use assertions::assert_same;
 use icu_collections_sets::codepointinvlist::CodePointInversionList;
 use icu_collections_sets::codepointinvliststringlist::{
     CodePointInversionListAndStringList, InvalidStringList,
@@ -58,7 +58,7 @@ fn first_refused_otherwise(alloc: Global) -> Option<usize> {
 
 #[test]
 fn refused_strings(rt: HostRuntime) {
-    assert_same(&rt, first_refused_otherwise(rt.alloc()), None);
+    assert_same!(rt; first_refused_otherwise(rt.alloc()), None);
 }
 
 /// Whether the set holds each of these texts, or none of them.
@@ -109,7 +109,7 @@ fn makes_four(alloc: Global) -> bool {
 
 #[test]
 fn sets_with_strings(rt: HostRuntime) {
-    assert_holds(&rt, makes_four(rt.alloc()));
+    assert!(rt; makes_four(rt.alloc()));
 }
 
 /// Whether a set is equal to its copy.
@@ -130,7 +130,7 @@ fn strings_are_copied(alloc: Global, texts: &[&str]) -> bool {
 
 #[test]
 fn ok_clone(rt: HostRuntime) {
-    assert_holds(&rt, strings_are_copied(rt.alloc(), &["ab", "éa"]));
+    assert!(rt; strings_are_copied(rt.alloc(), &["ab", "éa"]));
 }
 
 /// Whether the set with these strings is another than a set.
@@ -155,7 +155,7 @@ fn differ(alloc: Global, texts: &[&str], others: &[&str]) -> bool {
 
 #[test]
 fn sets_with_other_strings(rt: HostRuntime) {
-    assert_holds(&rt, differ(rt.alloc(), &["ab", "éa"], &[]));
+    assert!(rt; differ(rt.alloc(), &["ab", "éa"], &[]));
 }
 
 /// Whether a string alone is refused by its length.
@@ -168,7 +168,7 @@ fn is_of_bad_length(alloc: Global, text: &str) -> bool {
 
 #[test]
 fn a_string_of_one_character(rt: HostRuntime) {
-    assert_holds(&rt, is_of_bad_length(rt.alloc(), "x"));
+    assert!(rt; is_of_bad_length(rt.alloc(), "x"));
 }
 
 /// Whether a set prints as this text.
@@ -191,5 +191,5 @@ fn strings_print(alloc: Global, texts: &[&str], text: &str) -> bool {
 fn what_sets_with_strings_print(rt: HostRuntime) {
     let text =
         "CodePointInversionListAndStringList { code_points: CodePointInversionList { edges: [0, 65536] }, strings: [\"ab\"] }";
-    assert_holds(&rt, strings_print(rt.alloc(), &["ab"], text));
+    assert!(rt; strings_print(rt.alloc(), &["ab"], text));
 }

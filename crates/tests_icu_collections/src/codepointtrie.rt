@@ -3,7 +3,6 @@
 mod builder;
 mod ranges;
 
-use assertions::assert_holds;
 use icu_collections::codepointtrie::{
     CodePointTrie, CodePointTrieError, CodePointTrieHeader, FastCodePointTrie, SmallCodePointTrie,
     TrieType, TrieValue, TypedCodePointTrie,
@@ -60,17 +59,12 @@ fn refusal(index: &[u8], cells: &[u8]) -> Option<CodePointTrieError> {
 
 #[test]
 fn refused_tables(rt: HostRuntime) {
-    assert_holds(
-        &rt,
-        refusal(&[], &[]) == Some(CodePointTrieError::EmptyDataVector),
+    assert!(rt; refusal(&[], &[]) == Some(CodePointTrieError::EmptyDataVector));
+    assert!(rt;
+        refusal(&[0; 126], &[0; 64]) == Some(CodePointTrieError::IndexTooShortForFastAccess)
     );
-    assert_holds(
-        &rt,
-        refusal(&[0; 126], &[0; 64]) == Some(CodePointTrieError::IndexTooShortForFastAccess),
-    );
-    assert_holds(
-        &rt,
-        refusal(&[0; 128], &[0; 63]) == Some(CodePointTrieError::DataTooShortForFastAccess),
+    assert!(rt;
+        refusal(&[0; 128], &[0; 63]) == Some(CodePointTrieError::DataTooShortForFastAccess)
     );
 }
 
@@ -121,7 +115,7 @@ fn makes_small(alloc: Global) -> bool {
 
 #[test]
 fn cells_of_one_step(rt: HostRuntime) {
-    assert_holds(&rt, makes_small(rt.alloc()));
+    assert!(rt; makes_small(rt.alloc()));
 }
 
 // an index whose group of 18-bit offsets begins at 105: the first offset is 10000, the second 0
@@ -159,10 +153,7 @@ fn wide_reads(alloc: Global, table: &[(u32, u8)]) -> bool {
 
 #[test]
 fn cells_of_wide_offsets(rt: HostRuntime) {
-    assert_holds(
-        &rt,
-        wide_reads(rt.alloc(), &[(0x1005, 7), (0x1004, 0), (0x1015, 0)]),
-    );
+    assert!(rt; wide_reads(rt.alloc(), &[(0x1005, 7), (0x1004, 0), (0x1015, 0)]));
 }
 
 /// Whether a typed trie reads these values, by character and by number.
@@ -200,7 +191,7 @@ fn threes_read(table: &[(char, u8)]) -> bool {
 
 #[test]
 fn values_from_the_limit_on(rt: HostRuntime) {
-    assert_holds(&rt, threes_read(&[('\u{1000}', 3), ('a', 3)]));
+    assert!(rt; threes_read(&[('\u{1000}', 3), ('a', 3)]));
 }
 
 /// Whether a trie is equal to the small one.
@@ -236,7 +227,7 @@ fn comes_back_typed(alloc: Global) -> bool {
 
 #[test]
 fn typed_tries(rt: HostRuntime) {
-    assert_holds(&rt, comes_back_typed(rt.alloc()));
+    assert!(rt; comes_back_typed(rt.alloc()));
 }
 
 /// Whether a range of a trie prints as this.
@@ -296,7 +287,7 @@ fn threes_print(alloc: Global) -> bool {
 
 #[test]
 fn what_tries_print(rt: HostRuntime) {
-    assert_holds(&rt, threes_print(rt.alloc()));
+    assert!(rt; threes_print(rt.alloc()));
 }
 
 /// Whether a trie is equal to its copy, which reads a value.
@@ -317,7 +308,7 @@ fn small_is_copied(alloc: Global) -> bool {
 
 #[test]
 fn ok_clone(rt: HostRuntime) {
-    assert_holds(&rt, small_is_copied(rt.alloc()));
+    assert!(rt; small_is_copied(rt.alloc()));
 }
 
 /// Whether each number is that of this value, or of none.
@@ -332,14 +323,8 @@ fn are_values<T: TrieValue>(table: &[(u32, Option<T>)]) -> bool {
 
 #[test]
 fn numbers_of_values(rt: HostRuntime) {
-    assert_holds(&rt, are_values::<u8>(&[(0x100, None), (0xFF, Some(0xFF))]));
-    assert_holds(
-        &rt,
-        are_values::<u16>(&[(0x1_0000, None), (0xFFFF, Some(0xFFFF))]),
-    );
-    assert_holds(
-        &rt,
-        are_values::<char>(&[(0xD800, None), (0x61, Some('a'))]),
-    );
-    assert_holds(&rt, are_values::<u32>(&[(0xFFFF_FFFF, Some(0xFFFF_FFFF))]));
+    assert!(rt; are_values::<u8>(&[(0x100, None), (0xFF, Some(0xFF))]));
+    assert!(rt; are_values::<u16>(&[(0x1_0000, None), (0xFFFF, Some(0xFFFF))]));
+    assert!(rt; are_values::<char>(&[(0xD800, None), (0x61, Some('a'))]));
+    assert!(rt; are_values::<u32>(&[(0xFFFF_FFFF, Some(0xFFFF_FFFF))]));
 }

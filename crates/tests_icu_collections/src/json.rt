@@ -89,7 +89,7 @@ fn first_unwritten(alloc: Global) -> Option<&'static str> {
 
 #[test]
 fn ok_to_json(rt: HostRuntime) {
-    assert_same(&rt, first_unwritten(rt.alloc()), None);
+    assert_same!(rt; first_unwritten(rt.alloc()), None);
 }
 
 /// Whether numbers print as this text.
@@ -156,7 +156,7 @@ const LISTS: &[(&str, &str)] = &[
 
 #[test]
 fn ok_from_json(rt: HostRuntime) {
-    assert_same(&rt, first_read_otherwise(rt.alloc(), LISTS), None);
+    assert_same!(rt; first_read_otherwise(rt.alloc(), LISTS), None);
 }
 
 const REFUSED: &[(&str, &str)] = &[
@@ -180,7 +180,7 @@ const REFUSED: &[(&str, &str)] = &[
 
 #[test]
 fn refused_values(rt: HostRuntime) {
-    assert_same(&rt, first_read_otherwise(rt.alloc(), REFUSED), None);
+    assert_same!(rt; first_read_otherwise(rt.alloc(), REFUSED), None);
 }
 
 /// Whether the value of a set with strings is written as this text.
@@ -249,11 +249,7 @@ const STRING_LISTS: &[(&str, &str)] = &[
 
 #[test]
 fn ok_from_json_string_list(rt: HostRuntime) {
-    assert_same(
-        &rt,
-        first_string_list_read_otherwise(rt.alloc(), STRING_LISTS),
-        None,
-    );
+    assert_same!(rt; first_string_list_read_otherwise(rt.alloc(), STRING_LISTS), None);
 }
 
 const REFUSED_STRING_LISTS: &[(&str, &str)] = &[
@@ -299,9 +295,5 @@ const REFUSED_STRING_LISTS: &[(&str, &str)] = &[
 
 #[test]
 fn refused_string_lists(rt: HostRuntime) {
-    assert_same(
-        &rt,
-        first_string_list_read_otherwise(rt.alloc(), REFUSED_STRING_LISTS),
-        None,
-    );
+    assert_same!(rt; first_string_list_read_otherwise(rt.alloc(), REFUSED_STRING_LISTS), None);
 }

@@ -1,5 +1,5 @@
 //! Tests of packed vectors.
-use assertions::{assert_holds, assert_same};
+use assertions::assert_same;
 use icu_collections_sets::packed_vector::{PackedItem, PackedVec, PackedVecError};
 use std::alloc::Global;
 
@@ -10,16 +10,8 @@ fn refusal<T: PackedItem>(bytes: &[u8]) -> Option<PackedVecError> {
 
 #[test]
 fn bytes_that_end_within_an_item(rt: HostRuntime) {
-    assert_same(
-        &rt,
-        refusal::<u16>(&[1, 2, 3]),
-        Some(PackedVecError::OddLength),
-    );
-    assert_same(
-        &rt,
-        refusal::<char>(&[0, 0xD8, 0, 0]),
-        Some(PackedVecError::OddLength),
-    );
+    assert_same!(rt; refusal::<u16>(&[1, 2, 3]), Some(PackedVecError::OddLength));
+    assert_same!(rt; refusal::<char>(&[0, 0xD8, 0, 0]), Some(PackedVecError::OddLength));
 }
 
 /// Whether a vector has these items and no others.
@@ -45,26 +37,15 @@ fn are_items<T: PackedItem>(bytes: &[u8], expected: &[T]) -> bool {
 
 #[test]
 fn bytes_of_a_number(rt: HostRuntime) {
-    assert_holds(&rt, are_items::<u16>(&[1, 2], &[0x0201]));
-    assert_holds(
-        &rt,
-        are_items::<u64>(&[8, 7, 6, 5, 4, 3, 2, 1], &[0x0102_0304_0506_0708]),
-    );
+    assert!(rt; are_items::<u16>(&[1, 2], &[0x0201]));
+    assert!(rt; are_items::<u64>(&[8, 7, 6, 5, 4, 3, 2, 1], &[0x0102_0304_0506_0708]));
 }
 
 #[test]
 fn bytes_of_a_character(rt: HostRuntime) {
-    assert_same(
-        &rt,
-        refusal::<char>(&[0, 0xD8, 0]),
-        Some(PackedVecError::BadValue(0)),
-    );
-    assert_same(
-        &rt,
-        refusal::<char>(&[0x61, 0, 0, 0, 0, 0x11]),
-        Some(PackedVecError::BadValue(1)),
-    );
-    assert_holds(&rt, are_items::<char>(&[0x61, 0, 0], &['a']));
+    assert_same!(rt; refusal::<char>(&[0, 0xD8, 0]), Some(PackedVecError::BadValue(0)));
+    assert_same!(rt; refusal::<char>(&[0x61, 0, 0, 0, 0, 0x11]), Some(PackedVecError::BadValue(1)));
+    assert!(rt; are_items::<char>(&[0x61, 0, 0], &['a']));
 }
 
 /// What an iterator gives, in turn from the front and from the back.
@@ -84,7 +65,7 @@ fn give_in_turn(bytes: &[u8], expected: [Option<u16>; 4]) -> bool {
 #[test]
 fn items_from_both_ends(rt: HostRuntime) {
     let expected = [Some(1), Some(3), Some(2), None];
-    assert_holds(&rt, give_in_turn(&[1, 0, 2, 0, 3, 0], expected));
+    assert!(rt; give_in_turn(&[1, 0, 2, 0, 3, 0], expected));
 }
 
 /// Whether the items of each of these ranges are so many, or there is no such part.
@@ -115,12 +96,11 @@ fn three_have_parts(bytes: &[u8], parts: &[(usize, usize, Option<usize>)]) -> bo
 
 #[test]
 fn items_of_a_range(rt: HostRuntime) {
-    assert_holds(
-        &rt,
+    assert!(rt;
         three_have_parts(
             &[1, 0, 0, 0, 2, 0, 0, 0, 3, 0, 0, 0],
-            &[(1, 3, Some(2)), (3, 3, Some(0)), (2, 4, None), (2, 1, None)],
-        ),
+            &[(1, 3, Some(2)), (3, 3, Some(0)), (2, 4, None), (2, 1, None)]
+        )
     );
 }
 
@@ -142,8 +122,8 @@ fn packs_a_number(alloc: Global) -> bool {
 
 #[test]
 fn ok_from_slice(rt: HostRuntime) {
-    assert_holds(&rt, packs_characters(rt.alloc()));
-    assert_holds(&rt, packs_a_number(rt.alloc()));
+    assert!(rt; packs_characters(rt.alloc()));
+    assert!(rt; packs_a_number(rt.alloc()));
 }
 
 /// Whether the owned form of a vector of these bytes has these items.
@@ -159,7 +139,7 @@ fn is_owned(alloc: Global, bytes: &[u8], expected: &[u16]) -> bool {
 
 #[test]
 fn ok_into_owned(rt: HostRuntime) {
-    assert_holds(&rt, is_owned(rt.alloc(), &[1, 2], &[0x0201]));
+    assert!(rt; is_owned(rt.alloc(), &[1, 2], &[0x0201]));
 }
 
 /// Whether the copy of a vector is equal to it, and has these items.
@@ -188,8 +168,8 @@ fn packed_clones(alloc: Global, items: &[u16]) -> bool {
 
 #[test]
 fn ok_clone(rt: HostRuntime) {
-    assert_holds(&rt, borrowed_clones(rt.alloc(), &[1, 2], &[0x0201]));
-    assert_holds(&rt, packed_clones(rt.alloc(), &[0x0201]));
+    assert!(rt; borrowed_clones(rt.alloc(), &[1, 2], &[0x0201]));
+    assert!(rt; packed_clones(rt.alloc(), &[0x0201]));
 }
 
 /// Whether a vector is equal to that of packed items, or is another.
@@ -212,10 +192,7 @@ fn borrowed_compares(alloc: Global, bytes: &[u8], equal: &[u16], other: &[u16]) 
 
 #[test]
 fn equal_items(rt: HostRuntime) {
-    assert_holds(
-        &rt,
-        borrowed_compares(rt.alloc(), &[1, 2], &[0x0201], &[0x0102]),
-    );
+    assert!(rt; borrowed_compares(rt.alloc(), &[1, 2], &[0x0201], &[0x0102]));
 }
 
 /// Whether a vector of characters prints as this.
@@ -245,6 +222,6 @@ fn is_shown(alloc: Global, error: PackedVecError, text: &str) -> bool {
 #[test]
 fn printed(rt: HostRuntime) {
     let text = "item 3 isn't a value of its type";
-    assert_holds(&rt, bytes_print(rt.alloc(), &[0x61, 0, 0], "['a']"));
-    assert_holds(&rt, is_shown(rt.alloc(), PackedVecError::BadValue(3), text));
+    assert!(rt; bytes_print(rt.alloc(), &[0x61, 0, 0], "['a']"));
+    assert!(rt; is_shown(rt.alloc(), PackedVecError::BadValue(3), text));
 }

@@ -2,7 +2,7 @@
 //! lists of units, read and followed.
 ghost use Rattle.std.specs.Prelude.{leb, length};
 
-use assertions::{assert_holds, assert_same};
+use assertions::assert_same;
 use icu_collections::char16trie::{
     Char16Trie, EntryTest, ReadUnitsError, TrieResult, all_pass, read_units,
 };
@@ -44,12 +44,9 @@ fn lists(alloc: Global, units: &[u16], limit: usize, expected: &[(&[u16], i32)])
 fn ok_read_units(rt: HostRuntime) {
     let alloc = rt.alloc();
     let pairs = [(&[0x61u16][..], 1), (&[0x61, 0x62][..], 2)];
-    assert_holds(
-        &rt,
-        lists(alloc, &[0x30, 0x61, 0xb0, 0x62, 0x8002], 2, &pairs),
-    );
-    assert_holds(&rt, lists(alloc, &[0x30, 0x61, 0x8005], 1, &[(&[0x61], 5)]));
-    assert_holds(&rt, lists(alloc, &[], 0, &[]));
+    assert!(rt; lists(alloc, &[0x30, 0x61, 0xb0, 0x62, 0x8002], 2, &pairs));
+    assert!(rt; lists(alloc, &[0x30, 0x61, 0x8005], 1, &[(&[0x61], 5)]));
+    assert!(rt; lists(alloc, &[], 0, &[]));
 }
 
 /// The keys that are no longer than the limit.
@@ -83,13 +80,10 @@ fn all_short(
 fn ok_all_pass(rt: HostRuntime) {
     let alloc = rt.alloc();
     let units = &[0x30u16, 0x61, 0xb0, 0x62, 0x8002];
-    assert_holds(&rt, all_short(alloc, units, 9, 2) == Ok(true));
-    assert_holds(&rt, all_short(alloc, units, 9, 1) == Ok(false));
-    assert_holds(
-        &rt,
-        all_short(alloc, units, 1, 2) == Err(ReadUnitsError::BadUnits(3)),
-    );
-    assert_holds(&rt, all_short(alloc, &[], 9, 0) == Ok(true));
+    assert!(rt; all_short(alloc, units, 9, 2) == Ok(true));
+    assert!(rt; all_short(alloc, units, 9, 1) == Ok(false));
+    assert!(rt; all_short(alloc, units, 1, 2) == Err(ReadUnitsError::BadUnits(3)));
+    assert!(rt; all_short(alloc, &[], 9, 0) == Ok(true));
 }
 
 #[test]
@@ -106,7 +100,7 @@ fn a_branch_in_halves(rt: HostRuntime) {
         (&[101][..], 5),
         (&[102][..], 6),
     ];
-    assert_holds(&rt, lists(rt.alloc(), &units, 1, &pairs));
+    assert!(rt; lists(rt.alloc(), &units, 1, &pairs));
 }
 
 /// Units, a limit, an index, and whether reading stops there.
@@ -159,7 +153,7 @@ fn first_wrong_stop(alloc: Global) -> Option<usize> {
 
 #[test]
 fn units_that_are_refused(rt: HostRuntime) {
-    assert_same(&rt, first_wrong_stop(rt.alloc()), None);
+    assert_same!(rt; first_wrong_stop(rt.alloc()), None);
 }
 
 /// Whether a refusal is shown as this text.
@@ -172,14 +166,8 @@ fn is_shown(alloc: Global, error: ReadUnitsError, text: &str) -> bool {
 
 #[test]
 fn texts_of_refusals(rt: HostRuntime) {
-    assert_holds(
-        &rt,
-        is_shown(rt.alloc(), ReadUnitsError::BadUnits(12), "bad units at 12"),
-    );
-    assert_holds(
-        &rt,
-        is_shown(rt.alloc(), ReadUnitsError::Memory, "out of memory"),
-    );
+    assert!(rt; is_shown(rt.alloc(), ReadUnitsError::BadUnits(12), "bad units at 12"));
+    assert!(rt; is_shown(rt.alloc(), ReadUnitsError::Memory, "out of memory"));
 }
 
 /// Units at which the forms of nodes and numbers change.
@@ -291,7 +279,7 @@ fn short_lists_agree(alloc: Global) -> bool {
 
 #[test]
 fn short_lists_of_units(rt: HostRuntime) {
-    assert_holds(&rt, short_lists_agree(rt.alloc()));
+    assert!(rt; short_lists_agree(rt.alloc()));
 }
 
 /// The first unit of which it isn't so.
@@ -306,7 +294,7 @@ fn first_unit_that_disagrees(alloc: Global) -> Option<u16> {
 
 #[test]
 fn all_lists_of_one_unit(rt: HostRuntime) {
-    assert_same(&rt, first_unit_that_disagrees(rt.alloc()), None);
+    assert_same!(rt; first_unit_that_disagrees(rt.alloc()), None);
 }
 
 /// Whether it is so of all lists of four edges, or of all that begin with 1 before them.
@@ -328,10 +316,10 @@ fn four_agree(alloc: Global, is_branch: bool) -> bool {
 
 #[test]
 fn lists_of_four_units(rt: HostRuntime) {
-    assert_holds(&rt, four_agree(rt.alloc(), false));
+    assert!(rt; four_agree(rt.alloc(), false));
 }
 
 #[test]
 fn branches_of_two_units(rt: HostRuntime) {
-    assert_holds(&rt, four_agree(rt.alloc(), true));
+    assert!(rt; four_agree(rt.alloc(), true));
 }

@@ -1,5 +1,4 @@
 //! Tests of the builder of sets.
-use assertions::assert_holds;
 use icu_collections_sets::codepointinvlist::{
     CodePointInversionList, CodePointInversionListBuilder,
 };
@@ -126,21 +125,21 @@ fn comes_to(alloc: Global, edit: Edit, part: Part, edges: &[u32]) -> Result<bool
 #[test]
 fn an_empty_range_retains_nothing(rt: HostRuntime) {
     let retained = comes_to(rt.alloc(), Edit::Retain, Part::Range32(0x2F, 0x2E), &[]);
-    assert_holds(&rt, retained == Ok(true));
+    assert!(rt; retained == Ok(true));
 }
 
 #[test]
 fn ok_add_char(rt: HostRuntime) {
     let edges = [0x0A, 0x15, 0x28, 0x32];
     let edited = comes_to(rt.alloc(), Edit::Add, Part::Char('\u{14}'), &edges);
-    assert_holds(&rt, edited == Ok(true));
+    assert!(rt; edited == Ok(true));
 }
 
 #[test]
 fn ok_add32(rt: HostRuntime) {
     let edges = [0x0A, 0x14, 0x27, 0x32];
     let edited = comes_to(rt.alloc(), Edit::Add, Part::CodePoint(0x27), &edges);
-    assert_holds(&rt, edited == Ok(true));
+    assert!(rt; edited == Ok(true));
 }
 
 #[test]
@@ -152,7 +151,7 @@ fn ok_add_range(rt: HostRuntime) {
         Part::Range('\u{10}', '\u{27}'),
         &edges,
     );
-    assert_holds(&rt, edited == Ok(true));
+    assert!(rt; edited == Ok(true));
 }
 
 #[test]
@@ -164,28 +163,28 @@ fn ok_add_range32(rt: HostRuntime) {
         Part::Range32(0x40, 0xFFFF_FFFF),
         &edges,
     );
-    assert_holds(&rt, edited == Ok(true));
+    assert!(rt; edited == Ok(true));
 }
 
 #[test]
 fn ok_add_set(rt: HostRuntime) {
     let edges = [0x05, 0x14, 0x16, 0x21, 0x28, 0x33];
     let edited = comes_to(rt.alloc(), Edit::Add, Part::Set, &edges);
-    assert_holds(&rt, edited == Ok(true));
+    assert!(rt; edited == Ok(true));
 }
 
 #[test]
 fn ok_remove_char(rt: HostRuntime) {
     let edges = [0x0B, 0x14, 0x28, 0x32];
     let edited = comes_to(rt.alloc(), Edit::Remove, Part::Char('\u{0A}'), &edges);
-    assert_holds(&rt, edited == Ok(true));
+    assert!(rt; edited == Ok(true));
 }
 
 #[test]
 fn ok_remove32(rt: HostRuntime) {
     let edges = [0x0A, 0x14, 0x28, 0x31];
     let edited = comes_to(rt.alloc(), Edit::Remove, Part::CodePoint(0x31), &edges);
-    assert_holds(&rt, edited == Ok(true));
+    assert!(rt; edited == Ok(true));
 }
 
 #[test]
@@ -197,35 +196,35 @@ fn ok_remove_range(rt: HostRuntime) {
         Part::Range('\u{10}', '\u{11}'),
         &edges,
     );
-    assert_holds(&rt, edited == Ok(true));
+    assert!(rt; edited == Ok(true));
 }
 
 #[test]
 fn ok_remove_range32(rt: HostRuntime) {
     let edges = [0x0A, 0x13, 0x29, 0x32];
     let edited = comes_to(rt.alloc(), Edit::Remove, Part::Range32(0x13, 0x28), &edges);
-    assert_holds(&rt, edited == Ok(true));
+    assert!(rt; edited == Ok(true));
 }
 
 #[test]
 fn ok_remove_set(rt: HostRuntime) {
     let edges = [0x0A, 0x14, 0x28, 0x2C];
     let edited = comes_to(rt.alloc(), Edit::Remove, Part::Set, &edges);
-    assert_holds(&rt, edited == Ok(true));
+    assert!(rt; edited == Ok(true));
 }
 
 #[test]
 fn ok_retain_char(rt: HostRuntime) {
     let edges = [0x0A, 0x0B];
     let edited = comes_to(rt.alloc(), Edit::Retain, Part::Char('\u{0A}'), &edges);
-    assert_holds(&rt, edited == Ok(true));
+    assert!(rt; edited == Ok(true));
 }
 
 #[test]
 fn ok_retain32(rt: HostRuntime) {
     let edges = [0x31, 0x32];
     let edited = comes_to(rt.alloc(), Edit::Retain, Part::CodePoint(0x31), &edges);
-    assert_holds(&rt, edited == Ok(true));
+    assert!(rt; edited == Ok(true));
 }
 
 #[test]
@@ -237,35 +236,35 @@ fn ok_retain_range(rt: HostRuntime) {
         Part::Range('\u{10}', '\u{29}'),
         &edges,
     );
-    assert_holds(&rt, edited == Ok(true));
+    assert!(rt; edited == Ok(true));
 }
 
 #[test]
 fn ok_retain_range32(rt: HostRuntime) {
     let edges = [0x13, 0x14, 0x28, 0x29];
     let edited = comes_to(rt.alloc(), Edit::Retain, Part::Range32(0x13, 0x28), &edges);
-    assert_holds(&rt, edited == Ok(true));
+    assert!(rt; edited == Ok(true));
 }
 
 #[test]
 fn ok_retain_set(rt: HostRuntime) {
     let edges = [0x2C, 0x32];
     let edited = comes_to(rt.alloc(), Edit::Retain, Part::Set, &edges);
-    assert_holds(&rt, edited == Ok(true));
+    assert!(rt; edited == Ok(true));
 }
 
 #[test]
 fn ok_complement_char(rt: HostRuntime) {
     let edges = [0x0B, 0x14, 0x28, 0x32];
     let edited = comes_to(rt.alloc(), Edit::Complement, Part::Char('\u{0A}'), &edges);
-    assert_holds(&rt, edited == Ok(true));
+    assert!(rt; edited == Ok(true));
 }
 
 #[test]
 fn ok_complement32(rt: HostRuntime) {
     let edges = [0x0A, 0x15, 0x28, 0x32];
     let edited = comes_to(rt.alloc(), Edit::Complement, Part::CodePoint(0x14), &edges);
-    assert_holds(&rt, edited == Ok(true));
+    assert!(rt; edited == Ok(true));
 }
 
 #[test]
@@ -277,7 +276,7 @@ fn ok_complement_range(rt: HostRuntime) {
         Part::Range('\u{10}', '\u{2F}'),
         &edges,
     );
-    assert_holds(&rt, edited == Ok(true));
+    assert!(rt; edited == Ok(true));
 }
 
 #[test]
@@ -289,14 +288,14 @@ fn ok_complement_range32(rt: HostRuntime) {
         Part::Range32(0x14, 0x27),
         &edges,
     );
-    assert_holds(&rt, edited == Ok(true));
+    assert!(rt; edited == Ok(true));
 }
 
 #[test]
 fn ok_complement_set(rt: HostRuntime) {
     let edges = [0x05, 0x14, 0x16, 0x21, 0x28, 0x2C, 0x32, 0x33];
     let edited = comes_to(rt.alloc(), Edit::Complement, Part::Set, &edges);
-    assert_holds(&rt, edited == Ok(true));
+    assert!(rt; edited == Ok(true));
 }
 
 /// Whether a new builder is empty, and its set has no end.
@@ -312,8 +311,8 @@ fn has_two_ranges(alloc: Global) -> Result<bool, AllocError> {
 
 #[test]
 fn ok_build(rt: HostRuntime) {
-    assert_holds(&rt, starts_empty(rt.alloc()));
-    assert_holds(&rt, has_two_ranges(rt.alloc()) == Ok(true));
+    assert!(rt; starts_empty(rt.alloc()));
+    assert!(rt; has_two_ranges(rt.alloc()) == Ok(true));
 }
 
 /// Whether it has those of the rest after `complement`.
@@ -325,5 +324,5 @@ fn is_complemented(alloc: Global) -> Result<bool, AllocError> {
 
 #[test]
 fn ok_complement(rt: HostRuntime) {
-    assert_holds(&rt, is_complemented(rt.alloc()) == Ok(true));
+    assert!(rt; is_complemented(rt.alloc()) == Ok(true));
 }

@@ -1,5 +1,5 @@
 //! Tests of tries as TOML.
-use assertions::{assert_holds, assert_same};
+use assertions::assert_same;
 use icu_collections::codepointtrie::{
     CodePointTrie, CodePointTrieError, CodePointTrieHeader, CodePointTrieTomlError, TrieType,
     TrieValue,
@@ -121,7 +121,7 @@ fn small_is_written(alloc: Global) -> bool {
 
 #[test]
 fn ok_to_toml(rt: HostRuntime) {
-    assert_holds(&rt, small_is_written(rt.alloc()));
+    assert!(rt; small_is_written(rt.alloc()));
 }
 
 /// Whether a text is read as a trie in which a letter and a number past the last code point have 5.
@@ -142,7 +142,7 @@ fn fives_are_read(alloc: Global) -> bool {
 
 #[test]
 fn ok_from_toml(rt: HostRuntime) {
-    assert_holds(&rt, fives_are_read(rt.alloc()));
+    assert!(rt; fives_are_read(rt.alloc()));
 }
 
 /// Whether a text is read as a trie.
@@ -178,19 +178,10 @@ fn made_comes_back<T: TrieValue>(
 #[test]
 fn tries_come_back(rt: HostRuntime) {
     let alloc = rt.alloc();
-    assert_holds(&rt, made_comes_back(alloc, TrieType::Small, 64, 0u8, 255));
-    assert_holds(
-        &rt,
-        made_comes_back(alloc, TrieType::Fast, 1024, 7u16, 0xFFFF),
-    );
-    assert_holds(
-        &rt,
-        made_comes_back(alloc, TrieType::Small, 64, 0u32, 0xFFFF_FFFF),
-    );
-    assert_holds(
-        &rt,
-        made_comes_back(alloc, TrieType::Fast, 1024, '\u{10FFFF}', '\0'),
-    );
+    assert!(rt; made_comes_back(alloc, TrieType::Small, 64, 0u8, 255));
+    assert!(rt; made_comes_back(alloc, TrieType::Fast, 1024, 7u16, 0xFFFF));
+    assert!(rt; made_comes_back(alloc, TrieType::Small, 64, 0u32, 0xFFFF_FFFF));
+    assert!(rt; made_comes_back(alloc, TrieType::Fast, 1024, '\u{10FFFF}', '\0'));
 }
 
 /// Whether two texts are read as one trie.
@@ -219,7 +210,7 @@ fn fives_are_read_among_others(alloc: Global) -> bool {
 
 #[test]
 fn other_keys_are_ignored(rt: HostRuntime) {
-    assert_holds(&rt, fives_are_read_among_others(rt.alloc()));
+    assert!(rt; fives_are_read_among_others(rt.alloc()));
 }
 
 const NOT_READ: Option<CodePointTrieTomlError> = Some(CodePointTrieTomlError::FromDeserialized);
@@ -273,35 +264,20 @@ fn first_field_taken(alloc: Global) -> Option<&'static str> {
 #[test]
 fn refused_texts(rt: HostRuntime) {
     let alloc = rt.alloc();
-    assert_holds(&rt, refusal::<u8>(alloc, "=") == NOT_READ);
-    assert_holds(&rt, refusal::<u8>(alloc, "") == NOT_READ);
-    assert_holds(&rt, refusal::<u8>(alloc, FIELDS) == NOT_READ);
-    assert_same(&rt, first_field_taken(alloc), None);
+    assert!(rt; refusal::<u8>(alloc, "=") == NOT_READ);
+    assert!(rt; refusal::<u8>(alloc, "") == NOT_READ);
+    assert!(rt; refusal::<u8>(alloc, FIELDS) == NOT_READ);
+    assert_same!(rt; first_field_taken(alloc), None);
 }
 
 #[test]
 fn refused_values(rt: HostRuntime) {
     let alloc = rt.alloc();
-    assert_holds(
-        &rt,
-        is_refused::<u8>(alloc, FIELDS, (64, 64, "256"), NOT_READ),
-    );
-    assert_holds(
-        &rt,
-        is_refused::<u32>(alloc, FIELDS, (64, 64, "4294967296"), NOT_READ),
-    );
-    assert_holds(
-        &rt,
-        is_refused::<char>(alloc, FIELDS, (64, 64, "0xD800"), NOT_READ),
-    );
-    assert_holds(
-        &rt,
-        is_refused::<u8>(alloc, FIELDS, (64, 64, "true"), NOT_READ),
-    );
-    assert_holds(
-        &rt,
-        is_refused::<char>(alloc, FIELDS, (64, 64, "0x10FFFF"), None),
-    );
+    assert!(rt; is_refused::<u8>(alloc, FIELDS, (64, 64, "256"), NOT_READ));
+    assert!(rt; is_refused::<u32>(alloc, FIELDS, (64, 64, "4294967296"), NOT_READ));
+    assert!(rt; is_refused::<char>(alloc, FIELDS, (64, 64, "0xD800"), NOT_READ));
+    assert!(rt; is_refused::<u8>(alloc, FIELDS, (64, 64, "true"), NOT_READ));
+    assert!(rt; is_refused::<char>(alloc, FIELDS, (64, 64, "0x10FFFF"), None));
 }
 
 /// Whether the tables of a text are refused for this.
@@ -320,12 +296,9 @@ fn refused_tables(rt: HostRuntime) {
     let alloc = rt.alloc();
     let index = CodePointTrieError::IndexTooShortForFastAccess;
     let data = CodePointTrieError::DataTooShortForFastAccess;
-    assert_holds(
-        &rt,
-        tables_are_refused(alloc, 64, 0, CodePointTrieError::EmptyDataVector),
-    );
-    assert_holds(&rt, tables_are_refused(alloc, 63, 64, index));
-    assert_holds(&rt, tables_are_refused(alloc, 64, 63, data));
+    assert!(rt; tables_are_refused(alloc, 64, 0, CodePointTrieError::EmptyDataVector));
+    assert!(rt; tables_are_refused(alloc, 63, 64, index));
+    assert!(rt; tables_are_refused(alloc, 64, 63, data));
 }
 
 /// Whether two errors are shown as this.
@@ -345,8 +318,5 @@ fn are_shown(
 fn texts_of_errors(rt: HostRuntime) {
     let fault = CodePointTrieTomlError::Trie(CodePointTrieError::EmptyDataVector);
     let memory = CodePointTrieTomlError::Memory;
-    assert_holds(
-        &rt,
-        are_shown(rt.alloc(), fault, memory, "no data cell, out of memory"),
-    );
+    assert!(rt; are_shown(rt.alloc(), fault, memory, "no data cell, out of memory"));
 }

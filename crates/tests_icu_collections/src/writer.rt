@@ -1,6 +1,6 @@
 //! Writing of unit tries: what is written is found again, keys at fault, and a key of 5,000,000 units.
 
-use assertions::{assert_holds, assert_same};
+use assertions::assert_same;
 use icu_collections::char16trie::{Char16Trie, TrieResult, WriteUnitsError, write_units};
 use icu_collections_sets::packed_vector::PackedVec;
 use std::alloc::{AllocError, Global};
@@ -67,9 +67,9 @@ fn ok_write_units(rt: HostRuntime) {
     let a: &[u16] = &[0x61];
     let ab: &[u16] = &[0x61, 0x62];
     let linear = [0x30, 0x61, 0xb0, 0x62, 0x8002];
-    assert_holds(&rt, writes(rt.alloc(), &[(a, 1), (ab, 2)], &linear));
-    assert_holds(&rt, writes(rt.alloc(), &[(a, 5)], &[0x30, 0x61, 0x8005]));
-    assert_holds(&rt, writes(rt.alloc(), &[], &[]));
+    assert!(rt; writes(rt.alloc(), &[(a, 1), (ab, 2)], &linear));
+    assert!(rt; writes(rt.alloc(), &[(a, 5)], &[0x30, 0x61, 0x8005]));
+    assert!(rt; writes(rt.alloc(), &[], &[]));
 }
 
 /// Six keys of one unit.
@@ -88,7 +88,7 @@ fn a_branch_of_six(rt: HostRuntime) {
         5, 100, 6, 100, 0x8004, 101, 0x8005, 102, 0x8006, 97, 0x8001, 98, 0x8002, 99, 0xffff,
         0xffff, 0xffff,
     ];
-    assert_holds(&rt, writes(rt.alloc(), SIX, &expected));
+    assert!(rt; writes(rt.alloc(), SIX, &expected));
 }
 
 /// Pairs, and why they are not written.
@@ -116,7 +116,7 @@ fn first_refused_otherwise(alloc: Global) -> Option<usize> {
 
 #[test]
 fn keys_at_fault(rt: HostRuntime) {
-    assert_same(&rt, first_refused_otherwise(rt.alloc()), None);
+    assert_same!(rt; first_refused_otherwise(rt.alloc()), None);
 }
 
 /// Values at which the widths of numbers change.
@@ -150,7 +150,7 @@ fn first_value_lost(alloc: Global) -> Option<i32> {
 
 #[test]
 fn values_of_each_width(rt: HostRuntime) {
-    assert_same(&rt, first_value_lost(rt.alloc()), None);
+    assert_same!(rt; first_value_lost(rt.alloc()), None);
 }
 
 /// Whether keys, with values of every width and sign, are read back.
@@ -200,7 +200,7 @@ fn first_branch_lost(alloc: Global) -> Option<u16> {
 
 #[test]
 fn branches_of_each_size(rt: HostRuntime) {
-    assert_same(&rt, first_branch_lost(rt.alloc()), None);
+    assert_same!(rt; first_branch_lost(rt.alloc()), None);
 }
 
 /// A key of 7, then 8 so many times.
@@ -245,7 +245,7 @@ fn first_length_lost(alloc: Global) -> Option<u32> {
 
 #[test]
 fn jumps_over_long_keys(rt: HostRuntime) {
-    assert_same(&rt, first_length_lost(rt.alloc()), None);
+    assert_same!(rt; first_length_lost(rt.alloc()), None);
 }
 
 /// Whether so many units are written of a key, and read back.
@@ -266,7 +266,7 @@ fn longest_is_written(alloc: Global) -> bool {
 
 #[test]
 fn a_key_of_five_million_units(rt: HostRuntime) {
-    assert_holds(&rt, longest_is_written(rt.alloc()));
+    assert!(rt; longest_is_written(rt.alloc()));
 }
 
 /// Whether an error is shown as this.
@@ -280,8 +280,5 @@ fn is_shown(alloc: Global, error: WriteUnitsError, text: &str) -> bool {
 #[test]
 fn errors_print(rt: HostRuntime) {
     let text = "key 12 is not after the one before it";
-    assert_holds(
-        &rt,
-        is_shown(rt.alloc(), WriteUnitsError::NotSorted(12), text),
-    );
+    assert!(rt; is_shown(rt.alloc(), WriteUnitsError::NotSorted(12), text));
 }

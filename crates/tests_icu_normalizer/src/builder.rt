@@ -1,6 +1,5 @@
 //! Canonical tables that are built of classes and mappings.
 
-use assertions::assert_holds;
 use icu_normalizer_core::canonical::{
     CanonicalBorrowed, CanonicalData, CanonicalDataBuildError, CanonicalDataBuilder,
     CanonicalTables,
@@ -68,7 +67,7 @@ fn rows_are_accepted(alloc: Global) -> bool {
 
 #[test]
 fn ok_try_new(rt: HostRuntime) {
-    assert_holds(&rt, rows_are_accepted(rt.alloc()));
+    assert!(rt; rows_are_accepted(rt.alloc()));
 }
 
 /// Whether the tables that are built of what was given are.
@@ -89,7 +88,7 @@ fn builds_tables(alloc: Global) -> bool {
 
 #[test]
 fn ok_build(rt: HostRuntime) {
-    assert_holds(&rt, builds_tables(rt.alloc()));
+    assert!(rt; builds_tables(rt.alloc()));
 }
 
 /// Whether data that are built of what was given say so.
@@ -110,7 +109,7 @@ fn builds_data(alloc: Global) -> bool {
 
 #[test]
 fn ok_build_data(rt: HostRuntime) {
-    assert_holds(&rt, builds_data(rt.alloc()));
+    assert!(rt; builds_data(rt.alloc()));
 }
 
 /// Whether the class that is given to U+0323 is in what is built.
@@ -129,7 +128,7 @@ fn class_comes_back(alloc: Global, class: u8) -> bool {
 
 #[test]
 fn ok_class(rt: HostRuntime) {
-    assert_holds(&rt, class_comes_back(rt.alloc(), 220));
+    assert!(rt; class_comes_back(rt.alloc(), 220));
 }
 
 /// Whether U+0061 and U+0323 compose to this in what is built.
@@ -148,7 +147,7 @@ fn pair_comes_back(alloc: Global, composed: char) -> bool {
 
 #[test]
 fn ok_map(rt: HostRuntime) {
-    assert_holds(&rt, pair_comes_back(rt.alloc(), 'ạ'));
+    assert!(rt; pair_comes_back(rt.alloc(), 'ạ'));
 }
 
 /// Why nothing is built where a character is mapped to another besides.
@@ -165,7 +164,7 @@ const REFUSED: [(char, char); 4] = [('b', 'b'), ('\u{323}', 'b'), ('ß', '\u{110
 fn maps_that_break_rules(rt: HostRuntime) {
     for (character, target) in REFUSED {
         let refused = refusal(rt.alloc(), character, target);
-        assert_holds(&rt, refused == Some(CanonicalDataBuildError::Rules));
+        assert!(rt; refused == Some(CanonicalDataBuildError::Rules));
     }
 }
 
@@ -207,7 +206,7 @@ fn built_says_both(alloc: Global) -> bool {
 
 #[test]
 fn ok_build_nfkd(rt: HostRuntime) {
-    assert_holds(&rt, built_says_both(rt.alloc()));
+    assert!(rt; built_says_both(rt.alloc()));
 }
 
 /// Whether a builder takes a compatibility mapping of a character that has no other, and builds tables of it.
@@ -218,7 +217,7 @@ fn takes_mapping(alloc: Global) -> bool {
 
 #[test]
 fn ok_kmap(rt: HostRuntime) {
-    assert_holds(&rt, takes_mapping(rt.alloc()));
+    assert!(rt; takes_mapping(rt.alloc()));
 }
 
 /// Why no compatibility tables are built where a character is mapped besides.
@@ -239,6 +238,6 @@ const COMPATIBILITIES_REFUSED: [(char, char); 3] = [('s', 'ﬅ'), ('\u{323}', 'b
 fn compatibility_mappings_that_break_rules(rt: HostRuntime) {
     for (character, target) in COMPATIBILITIES_REFUSED {
         let refused = compatibility_refusal(rt.alloc(), character, target);
-        assert_holds(&rt, refused == Some(CanonicalDataBuildError::Rules));
+        assert!(rt; refused == Some(CanonicalDataBuildError::Rules));
     }
 }

@@ -1,6 +1,6 @@
 //! What the check of canonical tables refuses.
 
-use assertions::{assert_holds, assert_same};
+use assertions::assert_same;
 use icu_normalizer_core::canonical::{
     CanonicalData, CanonicalDataError, CanonicalFault, CanonicalTables,
 };
@@ -59,7 +59,7 @@ fn first_word_judged_otherwise(alloc: Global) -> Option<(u32, u32)> {
 
 #[test]
 fn words_that_are_refused(rt: HostRuntime) {
-    assert_same(&rt, first_word_judged_otherwise(rt.alloc()), None);
+    assert_same!(rt; first_word_judged_otherwise(rt.alloc()), None);
 }
 
 /// The tables of the worked rows with a word of U+FFFD which says that its list has two characters, where one is left:
@@ -80,10 +80,7 @@ fn cut_are_judged(alloc: Global, expected: Option<CanonicalFault>) -> bool {
 
 #[test]
 fn built_in_list_that_ends_outside(rt: HostRuntime) {
-    assert_holds(
-        &rt,
-        cut_are_judged(rt.alloc(), Some(CanonicalFault::BuiltIn('\u{fffd}'))),
-    );
+    assert!(rt; cut_are_judged(rt.alloc(), Some(CanonicalFault::BuiltIn('\u{fffd}'))));
 }
 
 /// Mappings, and what tables with them are refused for.
@@ -117,7 +114,7 @@ fn first_mappings_judged_otherwise(alloc: Global) -> Option<usize> {
 
 #[test]
 fn mappings_that_are_refused(rt: HostRuntime) {
-    assert_same(&rt, first_mappings_judged_otherwise(rt.alloc()), None);
+    assert_same!(rt; first_mappings_judged_otherwise(rt.alloc()), None);
 }
 
 /// Pairs that are exchanged, twice the same, of another character, built in, one left out, and the other.
@@ -140,7 +137,7 @@ fn has_pairs_judged(alloc: Global, pairs: &[u64], expected: Option<CanonicalFaul
 
 #[test]
 fn pairs_that_are_refused(rt: HostRuntime) {
-    assert_holds(&rt, pairs_are_judged(rt.alloc()));
+    assert!(rt; pairs_are_judged(rt.alloc()));
 }
 
 /// Whether tables are accepted, `None` where memory is refused.
@@ -172,11 +169,7 @@ fn first_bit_judged_otherwise(alloc: Global, code_point: u32, word: u32) -> Opti
 #[test]
 fn words_with_a_bit_inverted(rt: HostRuntime) {
     for (code_point, word) in [(0x61, 0), (0xe1, 0x180_8061), (0x301, 0xd8e6), (0xac00, 1)] {
-        assert_same(
-            &rt,
-            first_bit_judged_otherwise(rt.alloc(), code_point, word),
-            None,
-        );
+        assert_same!(rt; first_bit_judged_otherwise(rt.alloc(), code_point, word), None);
     }
 }
 
@@ -203,7 +196,7 @@ fn each_step_counts(alloc: Global) -> bool {
 
 #[test]
 fn mappings_with_a_bit_inverted(rt: HostRuntime) {
-    assert_holds(&rt, each_step_counts(rt.alloc()));
+    assert!(rt; each_step_counts(rt.alloc()));
 }
 
 /// Whether tables are refused where this bit of this pair is inverted.
@@ -229,5 +222,5 @@ fn each_pair_counts(alloc: Global) -> bool {
 
 #[test]
 fn pairs_with_a_bit_inverted(rt: HostRuntime) {
-    assert_holds(&rt, each_pair_counts(rt.alloc()));
+    assert!(rt; each_pair_counts(rt.alloc()));
 }

@@ -1,7 +1,6 @@
 //! Long chains of mappings, each to the next character, which are judged in time: a check that looks at all mappings again
 //! for each that it settles takes minutes for one of these.
 
-use assertions::assert_holds;
 use icu_normalizer_core::canonical::{CanonicalData, CanonicalDataError, CanonicalFault};
 use samples_icu_normalizer::tables::{PAIRS, STEPS, tables};
 use std::alloc::{AllocError, Global};
@@ -85,7 +84,7 @@ fn rising_chain(rt: HostRuntime) {
         rises: true,
         loops: false,
     };
-    assert_holds(&rt, chain.is_judged(rt.alloc(), None));
+    assert!(rt; chain.is_judged(rt.alloc(), None));
 }
 
 #[test]
@@ -94,7 +93,7 @@ fn falling_chain(rt: HostRuntime) {
         rises: false,
         loops: false,
     };
-    assert_holds(&rt, chain.is_judged(rt.alloc(), None));
+    assert!(rt; chain.is_judged(rt.alloc(), None));
 }
 
 #[test]
@@ -105,7 +104,7 @@ fn rising_chain_with_a_loop(rt: HostRuntime) {
     };
     // Each from the first to the middle leads into the loop.
     let loops = CanonicalFault::Loop('\u{20000}');
-    assert_holds(&rt, chain.is_judged(rt.alloc(), Some(loops)));
+    assert!(rt; chain.is_judged(rt.alloc(), Some(loops)));
 }
 
 #[test]
@@ -116,5 +115,5 @@ fn falling_chain_with_a_loop(rt: HostRuntime) {
     };
     // Each from the middle on leads into the loop.
     let loops = CanonicalFault::Loop('\u{2c000}');
-    assert_holds(&rt, chain.is_judged(rt.alloc(), Some(loops)));
+    assert!(rt; chain.is_judged(rt.alloc(), Some(loops)));
 }

@@ -5,7 +5,6 @@ ghost use Rattle.icu_normalizer_core.specs.Canonical.{decomposed};
 ghost use Rattle.icu_normalizer_core.specs.Classes.{with_classes};
 ghost use Rattle.icu_normalizer_core.specs.Decoding.{utf8_chars};
 
-use assertions::assert_holds;
 use icu_normalizer_core::canonical::{CanonicalBorrowed, CanonicalData, CanonicalTables};
 use icu_normalizer_core::decoding::decode_utf8;
 use samples_icu_normalizer::tables::{PAIRS, STEPS, tables};
@@ -118,5 +117,5 @@ fn has_rows(alloc: Global) -> bool {
 
 #[test]
 fn ok_classed(rt: HostRuntime) {
-    assert_holds(&rt, has_rows(rt.alloc()));
+    assert!(rt; has_rows(rt.alloc()));
 }

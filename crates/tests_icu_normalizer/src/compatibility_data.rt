@@ -1,6 +1,6 @@
 //! What the check of compatibility tables refuses, and what accepted ones say.
 
-use assertions::{assert_holds, assert_same};
+use assertions::assert_same;
 use icu_codepointtrie::{CodePointTrie, CodePointTrieHeader, TrieType};
 use icu_normalizer_core::canonical::{CanonicalData, CanonicalDataError, CanonicalFault, FullList};
 use icu_normalizer_core::compatibility::{CompatibilityBorrowed, CompatibilityData, NfkdTables};
@@ -172,7 +172,7 @@ fn first_judged_otherwise(alloc: Global) -> Option<usize> {
 
 #[test]
 fn words_that_are_refused(rt: HostRuntime) {
-    assert_same(&rt, first_judged_otherwise(rt.alloc()), None);
+    assert_same!(rt; first_judged_otherwise(rt.alloc()), None);
 }
 
 /// The cells of the words of the worked rows below U+1000.
@@ -221,10 +221,7 @@ fn without_words_are_judged(alloc: Global, expected: Option<CanonicalFault>) -> 
 
 #[test]
 fn characters_without_a_word(rt: HostRuntime) {
-    assert_holds(
-        &rt,
-        without_words_are_judged(rt.alloc(), Some(CanonicalFault::BadValue('\u{1000}'))),
-    );
+    assert!(rt; without_words_are_judged(rt.alloc(), Some(CanonicalFault::BadValue('\u{1000}'))));
 }
 
 /// Characters, and what is left of them by canonical and compatibility mappings.
@@ -313,5 +310,5 @@ fn accepted_say_so(alloc: Global) -> bool {
 
 #[test]
 fn ok_try_new(rt: HostRuntime) {
-    assert_holds(&rt, accepted_say_so(rt.alloc()));
+    assert!(rt; accepted_say_so(rt.alloc()));
 }

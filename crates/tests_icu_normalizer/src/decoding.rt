@@ -4,7 +4,7 @@ ghost use Rattle.std.specs.List.{All};
 ghost use Rattle.std.specs.Char.{IsScalar};
 ghost use Rattle.icu_normalizer_core.specs.Decoding.{utf8_chars, utf16_chars};
 
-use assertions::{assert_holds, assert_same};
+use assertions::assert_same;
 use icu_normalizer_core::decoding::{
     Utf8Chars, Utf16Chars, decode_latin1, decode_utf8, decode_utf16,
 };
@@ -105,7 +105,7 @@ fn first_utf8_read_otherwise(alloc: Global) -> Option<&'static [u8]> {
 
 #[test]
 fn ok_decode_utf8(rt: HostRuntime) {
-    assert_same(&rt, first_utf8_read_otherwise(rt.alloc()), None);
+    assert_same!(rt; first_utf8_read_otherwise(rt.alloc()), None);
 }
 
 /// Units, and their characters.
@@ -143,16 +143,16 @@ fn first_utf16_read_otherwise(alloc: Global) -> Option<&'static [u16]> {
 
 #[test]
 fn ok_decode_utf16(rt: HostRuntime) {
-    assert_same(&rt, first_utf16_read_otherwise(rt.alloc()), None);
+    assert_same!(rt; first_utf16_read_otherwise(rt.alloc()), None);
 }
 
 #[test]
 fn ok_decode_latin1(rt: HostRuntime) {
     let street = b"Stra\xDFe";
-    assert_holds(&rt, decode_latin1(b"\xE1").eq(['á']));
-    assert_holds(&rt, decode_latin1(street).eq("Straße".chars()));
-    assert_holds(&rt, decode_latin1(street).rev().eq("eßartS".chars()));
-    assert_holds(&rt, decode_latin1(b"").next_back().is_none());
+    assert!(rt; decode_latin1(b"\xE1").eq(['á']));
+    assert!(rt; decode_latin1(street).eq("Straße".chars()));
+    assert!(rt; decode_latin1(street).rev().eq("eßartS".chars()));
+    assert!(rt; decode_latin1(b"").next_back().is_none());
 }
 
 /// Whether an iterator of units gives this at its front.
@@ -189,7 +189,7 @@ fn ends_meet16(units: &[u16]) -> bool {
 // What is taken from one end is not there at the other.
 #[test]
 fn ends_of_utf16_meet(rt: HostRuntime) {
-    assert_holds(&rt, ends_meet16(&[0xD83D, 0xD83D, 0xDE00, 0xDE00]));
+    assert!(rt; ends_meet16(&[0xD83D, 0xD83D, 0xDE00, 0xDE00]));
 }
 
 /// Whether an iterator of bytes gives this at its front.
@@ -225,5 +225,5 @@ fn ends_meet8(bytes: &[u8]) -> bool {
 
 #[test]
 fn ends_of_utf8_meet(rt: HostRuntime) {
-    assert_holds(&rt, ends_meet8(b"\xE1\x80a\xF0\x90"));
+    assert!(rt; ends_meet8(b"\xE1\x80a\xF0\x90"));
 }

@@ -5,7 +5,6 @@ use crate::damaged::Row;
 use crate::encoded::{EncodedCall, Encoding, NormalizesUnits, are_bytes, are_units};
 use crate::given::gives_given;
 use crate::sinks::writes_of;
-use assertions::assert_holds;
 use icu_normalizer::composing::ComposingNormalizerBorrowed;
 use icu_normalizer::decomposing::DecomposingNormalizerBorrowed;
 use std::alloc::Global;
@@ -128,80 +127,50 @@ fn has_compatible_rows(alloc: Global, encoding: Encoding, call: EncodedCall) -> 
 
 #[test]
 fn ok_normalize_utf8(rt: HostRuntime) {
-    assert_holds(
-        &rt,
-        has_rows(rt.alloc(), Encoding::Utf8, EncodedCall::Normalize),
-    );
+    assert!(rt; has_rows(rt.alloc(), Encoding::Utf8, EncodedCall::Normalize));
 }
 
 #[test]
 fn ok_normalize_utf8_to(rt: HostRuntime) {
-    assert_holds(
-        &rt,
-        has_rows(rt.alloc(), Encoding::Utf8, EncodedCall::Write),
-    );
+    assert!(rt; has_rows(rt.alloc(), Encoding::Utf8, EncodedCall::Write));
 }
 
 #[test]
 fn ok_is_normalized_utf8(rt: HostRuntime) {
-    assert_holds(
-        &rt,
-        has_rows(rt.alloc(), Encoding::Utf8, EncodedCall::IsNormalized),
-    );
+    assert!(rt; has_rows(rt.alloc(), Encoding::Utf8, EncodedCall::IsNormalized));
 }
 
 #[test]
 fn ok_split_normalized_utf8(rt: HostRuntime) {
-    assert_holds(
-        &rt,
-        has_rows(rt.alloc(), Encoding::Utf8, EncodedCall::SplitNormalized),
-    );
+    assert!(rt; has_rows(rt.alloc(), Encoding::Utf8, EncodedCall::SplitNormalized));
 }
 
 #[test]
 fn ok_normalize_utf16(rt: HostRuntime) {
-    assert_holds(
-        &rt,
-        has_rows(rt.alloc(), Encoding::Utf16, EncodedCall::Normalize),
-    );
+    assert!(rt; has_rows(rt.alloc(), Encoding::Utf16, EncodedCall::Normalize));
 }
 
 #[test]
 fn ok_normalize_utf16_to(rt: HostRuntime) {
-    assert_holds(
-        &rt,
-        has_rows(rt.alloc(), Encoding::Utf16, EncodedCall::Write),
-    );
+    assert!(rt; has_rows(rt.alloc(), Encoding::Utf16, EncodedCall::Write));
 }
 
 #[test]
 fn ok_is_normalized_utf16(rt: HostRuntime) {
-    assert_holds(
-        &rt,
-        has_rows(rt.alloc(), Encoding::Utf16, EncodedCall::IsNormalized),
-    );
+    assert!(rt; has_rows(rt.alloc(), Encoding::Utf16, EncodedCall::IsNormalized));
 }
 
 #[test]
 fn ok_split_normalized_utf16(rt: HostRuntime) {
-    assert_holds(
-        &rt,
-        has_rows(rt.alloc(), Encoding::Utf16, EncodedCall::SplitNormalized),
-    );
+    assert!(rt; has_rows(rt.alloc(), Encoding::Utf16, EncodedCall::SplitNormalized));
 }
 
 #[test]
 fn compatible_forms_of_bytes(rt: HostRuntime) {
-    assert_holds(
-        &rt,
-        has_compatible_rows(rt.alloc(), Encoding::Utf8, EncodedCall::Normalize),
-    );
+    assert!(rt; has_compatible_rows(rt.alloc(), Encoding::Utf8, EncodedCall::Normalize));
 }
 
 #[test]
 fn compatible_forms_of_units(rt: HostRuntime) {
-    assert_holds(
-        &rt,
-        has_compatible_rows(rt.alloc(), Encoding::Utf16, EncodedCall::Normalize),
-    );
+    assert!(rt; has_compatible_rows(rt.alloc(), Encoding::Utf16, EncodedCall::Normalize));
 }

@@ -1,6 +1,5 @@
 //! Canonical tables from a provider, not yet checked, and compatibility data.
 
-use assertions::assert_holds;
 use icu_normalizer_core::canonical::FullList;
 use icu_normalizer_core::provider::{load_canonical, load_compatibility_data};
 use samples_icu_normalizer::held::{Held, with_compatibility};
@@ -48,10 +47,10 @@ fn is_loaded(alloc: Global, is_canonical: bool) -> bool {
 
 #[test]
 fn ok_load_canonical(rt: HostRuntime) {
-    assert_holds(&rt, is_loaded(rt.alloc(), true));
+    assert!(rt; is_loaded(rt.alloc(), true));
 }
 
 #[test]
 fn ok_load_compatibility_data(rt: HostRuntime) {
-    assert_holds(&rt, is_loaded(rt.alloc(), false));
+    assert!(rt; is_loaded(rt.alloc(), false));
 }

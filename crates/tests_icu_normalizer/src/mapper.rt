@@ -1,7 +1,7 @@
 //! The mapper of domain names over the canonical tables of the worked rows, and of a letter with a diaeresis.
 
 use crate::calls::are_chars;
-use assertions::{assert_holds, assert_same};
+use assertions::assert_same;
 use icu_codepointtrie::{
     CodePointTrie, CodePointTrieBuilder, CodePointTrieBuilderError, CodePointTrieHeader, TrieType,
 };
@@ -198,12 +198,12 @@ fn mapper_has_rows(alloc: Global, call: Call) -> bool {
 
 #[test]
 fn ok_map_normalize(rt: HostRuntime) {
-    assert_holds(&rt, mapper_has_rows(rt.alloc(), Call::MapNormalize));
+    assert!(rt; mapper_has_rows(rt.alloc(), Call::MapNormalize));
 }
 
 #[test]
 fn ok_normalize_validate(rt: HostRuntime) {
-    assert_holds(&rt, mapper_has_rows(rt.alloc(), Call::NormalizeValidate));
+    assert!(rt; mapper_has_rows(rt.alloc(), Call::NormalizeValidate));
 }
 
 /// Whether there is no mapper over a provider's tables for this reason, or there is one where it is `None`.
@@ -224,7 +224,7 @@ fn words_are_judged(alloc: Global, words: &[(u32, u32)], expected: Option<DataEr
 
 #[test]
 fn ok_try_new(rt: HostRuntime) {
-    assert_holds(&rt, words_are_judged(rt.alloc(), &[], None));
+    assert!(rt; words_are_judged(rt.alloc(), &[], None));
 }
 
 const DAMAGED: Option<DataError> = Some(DataError::Invalid(TableName::Uts46));
@@ -241,7 +241,7 @@ fn first_taken(alloc: Global) -> Option<(u32, u32)> {
 
 #[test]
 fn words_that_are_refused(rt: HostRuntime) {
-    assert_same(&rt, first_taken(rt.alloc()), None);
+    assert_same!(rt; first_taken(rt.alloc()), None);
 }
 
 /// A provider of the letters and of a mapper table that lacks some characters.
@@ -259,7 +259,7 @@ fn without_cells_is_judged(alloc: Global, expected: Option<DataError>) -> bool {
 
 #[test]
 fn characters_without_a_cell(rt: HostRuntime) {
-    assert_holds(&rt, without_cells_is_judged(rt.alloc(), DAMAGED));
+    assert!(rt; without_cells_is_judged(rt.alloc(), DAMAGED));
 }
 
 /// A provider whose canonical words are wrong about U+0300, and whose mapper table has bad words.
@@ -325,5 +325,5 @@ fn wrong_are_in_order(alloc: Global) -> bool {
 
 #[test]
 fn refusals_in_order(rt: HostRuntime) {
-    assert_holds(&rt, wrong_are_in_order(rt.alloc()));
+    assert!(rt; wrong_are_in_order(rt.alloc()));
 }

@@ -1,6 +1,5 @@
 //! Data from a provider, and in which order what is wrong is named.
 
-use assertions::assert_holds;
 use icu_normalizer_core::canonical::{
     CanonicalBorrowed, CanonicalDataBuildError, CanonicalDataError, CanonicalFault,
 };
@@ -150,7 +149,7 @@ fn letters_give_classes(alloc: Global) -> bool {
 
 #[test]
 fn ok_try_new_unstable_of_classes(rt: HostRuntime) {
-    assert_holds(&rt, letters_give_classes(rt.alloc()));
+    assert!(rt; letters_give_classes(rt.alloc()));
 }
 
 /// Whether its pairs are.
@@ -171,7 +170,7 @@ fn letters_give_pairs(alloc: Global) -> bool {
 
 #[test]
 fn ok_try_new_unstable_of_pairs(rt: HostRuntime) {
-    assert_holds(&rt, letters_give_pairs(rt.alloc()));
+    assert!(rt; letters_give_pairs(rt.alloc()));
 }
 
 /// Whether its mappings are.
@@ -192,7 +191,7 @@ fn letters_give_mappings(alloc: Global) -> bool {
 
 #[test]
 fn ok_try_new_unstable_of_mappings(rt: HostRuntime) {
-    assert_holds(&rt, letters_give_mappings(rt.alloc()));
+    assert!(rt; letters_give_mappings(rt.alloc()));
 }
 
 /// Whether its full lists are.
@@ -213,7 +212,7 @@ fn letters_give_full_lists(alloc: Global) -> bool {
 
 #[test]
 fn ok_load_canonical_data(rt: HostRuntime) {
-    assert_holds(&rt, letters_give_full_lists(rt.alloc()));
+    assert!(rt; letters_give_full_lists(rt.alloc()));
 }
 
 /// Why there are no composed pairs of a provider.
@@ -243,19 +242,10 @@ fn refusals_in_order(rt: HostRuntime) {
     let lists = DataError::Missing(TableName::NfdTables);
     let pairs = DataError::Missing(TableName::Pairs);
     let check = DataError::Canonical(CanonicalFault::BuiltIn('\u{300}'));
-    assert_holds(&rt, refusal_without(alloc, true, true, true) == Some(words));
-    assert_holds(
-        &rt,
-        refusal_without(alloc, false, true, true) == Some(lists),
-    );
-    assert_holds(
-        &rt,
-        refusal_without(alloc, false, false, true) == Some(pairs),
-    );
-    assert_holds(
-        &rt,
-        refusal_without(alloc, false, false, false) == Some(check),
-    );
+    assert!(rt; refusal_without(alloc, true, true, true) == Some(words));
+    assert!(rt; refusal_without(alloc, false, true, true) == Some(lists));
+    assert!(rt; refusal_without(alloc, false, false, true) == Some(pairs));
+    assert!(rt; refusal_without(alloc, false, false, false) == Some(check));
 }
 
 /// Whether an error is shown as this.
@@ -284,12 +274,9 @@ fn refusals_print(rt: HostRuntime) {
     let alloc = rt.alloc();
     let check = DataError::Canonical(CanonicalFault::BuiltIn('\u{300}'));
     let missing = DataError::Missing(TableName::NfkdTables);
-    assert_holds(&rt, is_shown(alloc, check, "bad built-in at 300"));
-    assert_holds(&rt, is_shown(alloc, missing, "no table nfkd_tables"));
+    assert!(rt; is_shown(alloc, check, "bad built-in at 300"));
+    assert!(rt; is_shown(alloc, missing, "no table nfkd_tables"));
     let fault = CanonicalDataError::Fault(CanonicalFault::BadValue('\u{e1}'));
     let text = "bad value at E1, a rule of canonical data is broken";
-    assert_holds(
-        &rt,
-        are_shown(alloc, fault, CanonicalDataBuildError::Rules, text),
-    );
+    assert!(rt; are_shown(alloc, fault, CanonicalDataBuildError::Rules, text));
 }

@@ -1,7 +1,6 @@
 //! What the constructors of normalisers to NFKD and NFKC name first: loads in their order, then canonical faults, then those of
 //! compatibility tables.
 
-use assertions::assert_holds;
 use icu_normalizer::composing::ComposingNormalizer;
 use icu_normalizer::decomposing::DecomposingNormalizer;
 use icu_normalizer_core::canonical::CanonicalFault;
@@ -89,6 +88,6 @@ fn compatibility_is_refused(alloc: Global) -> bool {
 
 #[test]
 fn refusals_in_order(rt: HostRuntime) {
-    assert_holds(&rt, wrong_are_in_order(rt.alloc()));
-    assert_holds(&rt, compatibility_is_refused(rt.alloc()));
+    assert!(rt; wrong_are_in_order(rt.alloc()));
+    assert!(rt; compatibility_is_refused(rt.alloc()));
 }

@@ -1,6 +1,5 @@
 //! What is given to a builder again: the same class or mapping, or another one of the same character.
 
-use assertions::assert_holds;
 use icu_normalizer_core::canonical::{
     CanonicalData, CanonicalDataBuildError, CanonicalDataBuilder,
 };
@@ -28,15 +27,15 @@ fn class_of(alloc: Global, classes: &[u8]) -> Option<u8> {
 
 #[test]
 fn classes_given_again(rt: HostRuntime) {
-    assert_holds(&rt, class_of(rt.alloc(), &[220, 220]) == Some(220));
-    assert_holds(&rt, class_of(rt.alloc(), &[220; 151]) == Some(220));
+    assert!(rt; class_of(rt.alloc(), &[220, 220]) == Some(220));
+    assert!(rt; class_of(rt.alloc(), &[220; 151]) == Some(220));
 }
 
 #[test]
 fn other_classes(rt: HostRuntime) {
-    assert_holds(&rt, class_of(rt.alloc(), &[220, 230]) == Some(220));
-    assert_holds(&rt, class_of(rt.alloc(), &[220, 255, 0]) == Some(220));
-    assert_holds(&rt, class_of(rt.alloc(), &[255, 220]).is_none());
+    assert!(rt; class_of(rt.alloc(), &[220, 230]) == Some(220));
+    assert!(rt; class_of(rt.alloc(), &[220, 255, 0]) == Some(220));
+    assert!(rt; class_of(rt.alloc(), &[255, 220]).is_none());
 }
 
 /// A builder that was given a class for each of so many characters from U+20000 on.
@@ -60,11 +59,8 @@ fn built_of_many(alloc: Global, count: u32) -> Option<CanonicalDataBuildError> {
 
 #[test]
 fn limit_of_different_characters(rt: HostRuntime) {
-    assert_holds(&rt, built_of_many(rt.alloc(), 150).is_none());
-    assert_holds(
-        &rt,
-        built_of_many(rt.alloc(), 151) == Some(CanonicalDataBuildError::Rules),
-    );
+    assert!(rt; built_of_many(rt.alloc(), 150).is_none());
+    assert!(rt; built_of_many(rt.alloc(), 151) == Some(CanonicalDataBuildError::Rules));
 }
 
 /// A builder that was given so often that U+1EA1 is composed of U+0061 and U+0323.
@@ -97,16 +93,16 @@ fn other_mapping_refusal(
 
 #[test]
 fn mappings_given_again(rt: HostRuntime) {
-    assert_holds(&rt, mapping_refusal(rt.alloc(), 2).is_none());
-    assert_holds(&rt, mapping_refusal(rt.alloc(), 151).is_none());
+    assert!(rt; mapping_refusal(rt.alloc(), 2).is_none());
+    assert!(rt; mapping_refusal(rt.alloc(), 151).is_none());
 }
 
 #[test]
 fn other_mappings(rt: HostRuntime) {
     let rules = Some(CanonicalDataBuildError::Rules);
-    assert_holds(&rt, other_mapping_refusal(rt.alloc(), 'b', true) == rules);
-    assert_holds(&rt, other_mapping_refusal(rt.alloc(), 'a', false) == rules);
-    assert_holds(&rt, other_mapping_refusal(rt.alloc(), 'a', true).is_none());
+    assert!(rt; other_mapping_refusal(rt.alloc(), 'b', true) == rules);
+    assert!(rt; other_mapping_refusal(rt.alloc(), 'a', false) == rules);
+    assert!(rt; other_mapping_refusal(rt.alloc(), 'a', true).is_none());
 }
 
 /// A builder that was given so often that U+FB01 is U+0066 and U+0069 by compatibility.
@@ -142,13 +138,13 @@ fn other_compatibility_refusal(
 
 #[test]
 fn compatibility_mappings_given_again(rt: HostRuntime) {
-    assert_holds(&rt, compatibility_refusal(rt.alloc(), 2).is_none());
-    assert_holds(&rt, compatibility_refusal(rt.alloc(), 151).is_none());
+    assert!(rt; compatibility_refusal(rt.alloc(), 2).is_none());
+    assert!(rt; compatibility_refusal(rt.alloc(), 151).is_none());
 }
 
 #[test]
 fn other_compatibility_mappings(rt: HostRuntime) {
     let rules = Some(CanonicalDataBuildError::Rules);
-    assert_holds(&rt, other_compatibility_refusal(rt.alloc(), false) == rules);
-    assert_holds(&rt, other_compatibility_refusal(rt.alloc(), true) == rules);
+    assert!(rt; other_compatibility_refusal(rt.alloc(), false) == rules);
+    assert!(rt; other_compatibility_refusal(rt.alloc(), true) == rules);
 }

@@ -3,7 +3,6 @@
 
 ghost use Rattle.std.specs.Prelude.{◌≡◌, ◌++◌, ⊤, OnOk, OnErr};
 
-use assertions::assert_holds;
 use icu_normalizer::sinks::{NormError, TextSink, UnitSink};
 use std::alloc::{AllocError, Global};
 
@@ -150,7 +149,7 @@ fn ok_write_str(rt: HostRuntime) -> Result<(), AllocError> {
     let mut sink = String::new(rt.alloc());
     TextSink::write_str(&mut sink, "a\u{e1}")?;
     TextSink::write_str(&mut sink, "b")?;
-    assert_holds(&rt, sink.as_str() == "a\u{e1}b");
+    assert!(rt; sink.as_str() == "a\u{e1}b");
     Ok(())
 }
 
@@ -159,10 +158,7 @@ fn ok_write_char_of_text(rt: HostRuntime) -> Result<(), AllocError> {
     let mut sink = String::new(rt.alloc());
     TextSink::write_char(&mut sink, '\u{e1}')?;
     TextSink::write_char(&mut sink, '\u{10330}')?;
-    assert_holds(
-        &rt,
-        sink.as_bytes() == b"\xc3\xa1\xf0\x90\x8c\xb0".as_slice(),
-    );
+    assert!(rt; sink.as_bytes() == b"\xc3\xa1\xf0\x90\x8c\xb0".as_slice());
     Ok(())
 }
 
@@ -171,7 +167,7 @@ fn ok_write_slice(rt: HostRuntime) -> Result<(), AllocError> {
     let mut sink = Vec::new(rt.alloc());
     sink.write_slice(&[0x61, 0xd800])?;
     sink.write_slice(&[0x62])?;
-    assert_holds(&rt, sink.as_slice() == [0x61, 0xd800, 0x62].as_slice());
+    assert!(rt; sink.as_slice() == [0x61, 0xd800, 0x62].as_slice());
     Ok(())
 }
 
@@ -180,6 +176,6 @@ fn ok_write_char_of_units(rt: HostRuntime) -> Result<(), AllocError> {
     let mut sink = Vec::new(rt.alloc());
     sink.write_char('\u{e1}')?;
     sink.write_char('\u{10330}')?;
-    assert_holds(&rt, sink.as_slice() == [0xe1, 0xd800, 0xdf30].as_slice());
+    assert!(rt; sink.as_slice() == [0xe1, 0xd800, 0xdf30].as_slice());
     Ok(())
 }

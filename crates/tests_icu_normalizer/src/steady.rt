@@ -1,6 +1,5 @@
 //! Characters that composing leaves alone.
 
-use assertions::assert_holds;
 use icu_normalizer_core::canonical::{CanonicalBorrowed, CanonicalData, CanonicalDataBuilder};
 use std::alloc::{AllocError, Global};
 
@@ -60,6 +59,6 @@ fn is_built_so(alloc: Global) -> Result<bool, AllocError> {
 
 #[test]
 fn ok_is_steady(rt: HostRuntime) -> Result<(), AllocError> {
-    assert_holds(&rt, is_built_so(rt.alloc())?);
+    assert!(rt; is_built_so(rt.alloc())?);
     Ok(())
 }

@@ -1,6 +1,5 @@
 //! Tests of tries that are built from maps.
 use super::{has_cells, reads_all};
-use assertions::assert_holds;
 use icu_collections::codepointtrie::{
     CodePointTrie, CodePointTrieBuildError, CodePointTrieBuilder, TrieType, planes,
 };
@@ -29,7 +28,7 @@ fn new_map_takes(alloc: Global) -> bool {
 
 #[test]
 fn ok_new(rt: HostRuntime) {
-    assert_holds(&rt, new_map_takes(rt.alloc()));
+    assert!(rt; new_map_takes(rt.alloc()));
 }
 
 /// Whether these writes of the value 7 from one end to the other are taken, or all refused.
@@ -55,7 +54,7 @@ fn new_map_takes_ranges(alloc: Global) -> bool {
 
 #[test]
 fn writes_of_ranges(rt: HostRuntime) {
-    assert_holds(&rt, new_map_takes_ranges(rt.alloc()));
+    assert!(rt; new_map_takes_ranges(rt.alloc()));
 }
 
 // the value 7 at 41, else 0, and 9 past the last code point
@@ -81,8 +80,8 @@ fn builds_one_value(alloc: Global, trie_type: TrieType) -> bool {
 
 #[test]
 fn ok_build(rt: HostRuntime) {
-    assert_holds(&rt, builds_one_value(rt.alloc(), TrieType::Fast));
-    assert_holds(&rt, builds_one_value(rt.alloc(), TrieType::Small));
+    assert!(rt; builds_one_value(rt.alloc(), TrieType::Fast));
+    assert!(rt; builds_one_value(rt.alloc(), TrieType::Small));
 }
 
 /// Gives each code point below 50000 (hex) its own number plus one; whether all is taken.
@@ -108,8 +107,8 @@ fn is_too_large(alloc: Global, trie_type: TrieType) -> bool {
 
 #[test]
 fn too_many_blocks(rt: HostRuntime) {
-    assert_holds(&rt, is_too_large(rt.alloc(), TrieType::Fast));
-    assert_holds(&rt, is_too_large(rt.alloc(), TrieType::Small));
+    assert!(rt; is_too_large(rt.alloc(), TrieType::Fast));
+    assert!(rt; is_too_large(rt.alloc(), TrieType::Small));
 }
 
 /// Gives 1000 + 10 * i (hex) the value i + 1, for each i below 15,839, of which 11,999 lie from 10000 (hex) on; whether
@@ -154,8 +153,8 @@ fn builds_blocks(alloc: Global, trie_type: TrieType) -> bool {
 
 #[test]
 fn as_many_blocks_as_are_taken(rt: HostRuntime) {
-    assert_holds(&rt, builds_blocks(rt.alloc(), TrieType::Fast));
-    assert_holds(&rt, builds_blocks(rt.alloc(), TrieType::Small));
+    assert!(rt; builds_blocks(rt.alloc(), TrieType::Fast));
+    assert!(rt; builds_blocks(rt.alloc(), TrieType::Small));
 }
 
 // a number that looks random, from the one before it
@@ -243,8 +242,8 @@ fn random_map_is_built(alloc: Global, trie_type: TrieType) -> bool {
 
 #[test]
 fn random_maps(rt: HostRuntime) {
-    assert_holds(&rt, random_map_is_built(rt.alloc(), TrieType::Fast));
-    assert_holds(&rt, random_map_is_built(rt.alloc(), TrieType::Small));
+    assert!(rt; random_map_is_built(rt.alloc(), TrieType::Fast));
+    assert!(rt; random_map_is_built(rt.alloc(), TrieType::Small));
 }
 
 /// Whether the trie of planes reads these values.
@@ -258,5 +257,5 @@ fn planes_read(alloc: Global, table: &[(u32, u8)]) -> bool {
 #[test]
 fn ok_get_planes_trie(rt: HostRuntime) {
     let table = [(0x41, 0), (0x1F600, 1), (0x10_FFFF, 16), (0x11_0000, 0)];
-    assert_holds(&rt, planes_read(rt.alloc(), &table));
+    assert!(rt; planes_read(rt.alloc(), &table));
 }

@@ -1,6 +1,5 @@
 //! Tests of the ranges of tries.
 use super::small_trie;
-use assertions::assert_holds;
 use icu_collections::codepointtrie::CodePointTrie;
 use std::alloc::Global;
 
@@ -26,10 +25,7 @@ fn small_has_ranges(alloc: Global, expected: &[(u32, u8)]) -> bool {
 
 #[test]
 fn ranges_of_a_trie(rt: HostRuntime) {
-    assert_holds(
-        &rt,
-        small_has_ranges(rt.alloc(), &[(0, 5), (0x40, 8), (0x41, 6), (0x44, 8)]),
-    );
+    assert!(rt; small_has_ranges(rt.alloc(), &[(0, 5), (0x40, 8), (0x41, 6), (0x44, 8)]));
 }
 
 /// Whether the range that holds a code point begins there and ends so, or there is none.
@@ -52,7 +48,7 @@ fn small_has_ranges_from(alloc: Global) -> bool {
 
 #[test]
 fn ranges_from_code_points(rt: HostRuntime) {
-    assert_holds(&rt, small_has_ranges_from(rt.alloc()));
+    assert!(rt; small_has_ranges_from(rt.alloc()));
 }
 
 /// Whether the ranges with a value have these ends.
@@ -77,11 +73,8 @@ fn small_has_ranges_for(alloc: Global, value: u8, ends: &[(u32, u32)]) -> bool {
 
 #[test]
 fn ranges_of_a_value(rt: HostRuntime) {
-    assert_holds(
-        &rt,
-        small_has_ranges_for(rt.alloc(), 8, &[(0x40, 0x40), (0x44, 0x10_FFFF)]),
-    );
-    assert_holds(&rt, small_has_ranges_for(rt.alloc(), 9, &[]));
+    assert!(rt; small_has_ranges_for(rt.alloc(), 8, &[(0x40, 0x40), (0x44, 0x10_FFFF)]));
+    assert!(rt; small_has_ranges_for(rt.alloc(), 9, &[]));
 }
 
 /// Whether the set of the code points with a value has these ends.
@@ -105,16 +98,13 @@ fn small_has_edges(alloc: Global, value: u8, edges: &[u32]) -> bool {
 
 #[test]
 fn ok_get_set_for_value(rt: HostRuntime) {
-    assert_holds(
-        &rt,
-        small_has_edges(rt.alloc(), 8, &[0x40, 0x41, 0x44, 0x11_0000]),
-    );
-    assert_holds(&rt, small_has_edges(rt.alloc(), 6, &[0x41, 0x44]));
+    assert!(rt; small_has_edges(rt.alloc(), 8, &[0x40, 0x41, 0x44, 0x11_0000]));
+    assert!(rt; small_has_edges(rt.alloc(), 6, &[0x41, 0x44]));
 }
 
 #[test]
 fn sets_of_no_value(rt: HostRuntime) {
-    assert_holds(&rt, small_has_edges(rt.alloc(), 9, &[]));
+    assert!(rt; small_has_edges(rt.alloc(), 9, &[]));
 }
 
 /// Whether the ranges of a trie's values, as to whether they are over 5, begin so.
@@ -139,8 +129,5 @@ fn small_has_images(alloc: Global, expected: &[(u32, bool)]) -> bool {
 
 #[test]
 fn ranges_of_an_image(rt: HostRuntime) {
-    assert_holds(
-        &rt,
-        small_has_images(rt.alloc(), &[(0, false), (0x40, true)]),
-    );
+    assert!(rt; small_has_images(rt.alloc(), &[(0, false), (0x40, true)]));
 }
