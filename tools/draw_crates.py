@@ -120,7 +120,7 @@ def faults(groups, uses):
         page, named = 'crates/README.md', re.findall(r'`([a-z0-9_]+)`', ' '.join(items))
         if group == TESTS:
             page = 'CONTRIBUTING.md'
-            named = re.findall(r'^    ((?:tests|samples|examples)_[a-z0-9_]+)', open(TABLE, encoding='utf-8').read(), flags=re.M)
+            named = re.findall(r'^    ((?:tests|samples|examples)_[a-z0-9_]+|assertions)\b', open(TABLE, encoding='utf-8').read(), flags=re.M)
         for it in names:
             if it not in named:
                 yield f'{page}: {it} is not under "{group}"'
