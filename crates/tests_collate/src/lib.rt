@@ -3,6 +3,8 @@
 #![tactic(auto)]
 
 #[cfg(test)]
+mod assertions_fail;
+#[cfg(test)]
 mod buffered;
 #[cfg(test)]
 mod commands;
