@@ -64,7 +64,7 @@ fn ok_pack_and_get(rt: HostRuntime) -> Result<(), Fail> {
 #[test]
 fn ok_chars_of_bytes(rt: HostRuntime) -> Result<(), Fail> {
     let chars = decoded::chars_of_bytes(rt.alloc(), b"a\xFF")?;
-    assert_same!(rt; chars.as_slice(), ['a', '\u{FFFD}'].as_slice());
+    assert_same!(rt; *chars.as_slice(), *['a', '\u{FFFD}'].as_slice());
     assert_same!(rt; decoded::count_chars(&[0x61, 0xD83D, 0xDE00]), 2);
     Ok(())
 }
@@ -100,7 +100,7 @@ fn ok_index_of_two(rt: HostRuntime) -> Result<(), Fail> {
     let file = Records::read(rt.alloc(), FILE)?;
     let index = names::index_of_two(rt.alloc(), file, b"b", b"ab")?;
     assert_same!(rt; names::count_equal(&index, b"b")?, 1);
-    assert_same!(rt; names::first_name(&index), Some(b"ab".as_slice()));
+    assert_eq!(rt; names::first_name(&index), Some(b"ab".as_slice()));
     Ok(())
 }
 
@@ -112,7 +112,7 @@ fn ok_count_between(rt: HostRuntime) -> Result<(), Fail> {
     assert!(rt; names::take_out(&mut index, b"ab"));
     assert!(rt; !names::take_out(&mut index, b"ab"));
     assert_same!(rt; names::count_between(&index, b"a", b"ab")?, 0);
-    assert_same!(rt; names::first_name(&index), Some(b"b".as_slice()));
+    assert_eq!(rt; names::first_name(&index), Some(b"b".as_slice()));
     assert!(rt; names::adopt(&mut index, b""));
     assert!(rt; !names::adopt(&mut index, b"w"));
     Ok(())
@@ -140,14 +140,14 @@ fn ok_key_by_file(rt: HostRuntime) -> Result<(), Fail> {
     let preferences = CollatorPreferences::default();
     let options = CollatorOptions::default();
     let key = collations::key_by_file(rt.alloc(), FILE, preferences, options, "á").ok_or("none")?;
-    assert_same!(rt; key.as_slice(), [0x2A, 0x10, 0x01, 0x45, 0x88, 0x01, 0x01, 0x06, 0x01].as_slice());
+    assert_same!(rt; *key.as_slice(), *[0x2A, 0x10, 0x01, 0x45, 0x88, 0x01, 0x01, 0x06, 0x01].as_slice());
     Ok(())
 }
 
 #[test]
 fn ok_composed_by_file(rt: HostRuntime) -> Result<(), Fail> {
     let form = collations::composed_by_file(rt.alloc(), FILE, "a\u{301}").ok_or("none")?;
-    assert_same!(rt; form.as_str(), "á");
+    assert_same!(rt; *form.as_str(), *"á");
     Ok(())
 }
 
@@ -297,7 +297,7 @@ fn ok_key_of_forms_by_file(rt: HostRuntime) -> Result<(), Fail> {
         options,
         "á",
     ).ok_or("none")?;
-    assert_same!(rt; decomposed.as_slice(), key.as_slice());
+    assert_same!(rt; *decomposed.as_slice(), *key.as_slice());
     let composed = normalised::composed_key_by_file(
         alloc,
         FILE,
@@ -305,7 +305,7 @@ fn ok_key_of_forms_by_file(rt: HostRuntime) -> Result<(), Fail> {
         options,
         "a\u{301}",
     ).ok_or("none")?;
-    assert_same!(rt; composed.as_slice(), key.as_slice());
+    assert_same!(rt; *composed.as_slice(), *key.as_slice());
     Ok(())
 }
 
@@ -314,7 +314,7 @@ fn ok_index_by_file(rt: HostRuntime) -> Result<(), Fail> {
     let preferences = CollatorPreferences::default();
     let options = CollatorOptions::default();
     let index = names::index_by_file(rt.alloc(), FILE, &preferences, &options).ok_or("no index")?;
-    assert_same!(rt; names::first_name(&index), None);
+    assert_eq!(rt; names::first_name(&index), None);
     Ok(())
 }
 
@@ -346,6 +346,6 @@ names 2
 b
 a
 ";
-    assert_same!(rt; written.as_slice(), replies.as_slice());
+    assert_same!(rt; *written.as_slice(), *replies.as_slice());
     Ok(())
 }

@@ -97,13 +97,13 @@ fn ok_run_buffered(rt: HostRuntime) -> Result<(), Fail> {
     let mut written = Vec::new(alloc);
     let result = run_over_nothing(&rt, alloc, TEXT, &mut written);
     assert_same!(rt; result, Ok(()));
-    assert_same!(rt; written.as_slice(), REPLIES);
+    assert_same!(rt; *written.as_slice(), *REPLIES);
     for room in [1, 5, 6, 7, 24, 34, 51, 64] {
         written.clear();
         let reader = BufReader::with_capacity(alloc, room, TEXT)?;
         let result = run_over_nothing(&rt, alloc, reader, &mut written);
         assert_same!(rt; result, Ok(()); room);
-        assert_same!(rt; written.as_slice(), REPLIES; room);
+        assert_same!(rt; *written.as_slice(), *REPLIES; room);
     }
     Ok(())
 }
@@ -125,7 +125,7 @@ fn ok_run_buffered_with_seed(rt: HostRuntime) -> Result<(), Fail> {
         &mut writer,
     );
     assert_same!(rt; result, Ok(()));
-    assert_same!(rt; written.as_slice(), REPLIES);
+    assert_same!(rt; *written.as_slice(), *REPLIES);
     Ok(())
 }
 
@@ -148,8 +148,8 @@ fn ok_serve_buffered(rt: HostRuntime) -> Result<(), Fail> {
         &mut errors,
     );
     assert_same!(rt; status, 0);
-    assert_same!(rt; written.as_slice(), REPLIES);
-    assert_same!(rt; errors.as_slice(), b"".as_slice());
+    assert_same!(rt; *written.as_slice(), *REPLIES);
+    assert_same!(rt; *errors.as_slice(), *b"".as_slice());
     Ok(())
 }
 
@@ -182,7 +182,7 @@ fn who_types_gets_each_reply_at_once(rt: HostRuntime) -> Result<(), Fail> {
     let result = run_over_nothing(&rt, alloc, reader, screen);
     assert_same!(rt; result, Ok(()));
     assert_same!(rt; seen.get(), shown.len());
-    assert_same!(rt; shown.as_slice(), b"added\nduplicate\nnames 1\nb\nnames 1\nb\nrefused 1 grammar\nremoved\nbad\nadded\nduplicate\n".as_slice());
+    assert_same!(rt; *shown.as_slice(), *b"added\nduplicate\nnames 1\nb\nnames 1\nb\nrefused 1 grammar\nremoved\nbad\nadded\nduplicate\n".as_slice());
     Ok(())
 }
 
@@ -291,7 +291,11 @@ fn run_buffered_ends_where_a_read_fails(rt: HostRuntime) -> Result<(), Fail> {
             let reader = BufReader::with_capacity(alloc, 64, reader)?;
             let result = run_over_nothing(&rt, alloc, reader, &mut written);
             assert_same!(rt; result, Err(RunFault::Read); calls);
-            assert_same!(rt; Some(written.as_slice()), REPLIES.get(..bytes); calls);
+            assert_eq!(rt;
+                Some(written.as_slice()),
+                REPLIES.get(..bytes),
+                "after {calls}"
+            );
         }
     }
     Ok(())
@@ -317,7 +321,11 @@ fn run_buffered_ends_where_a_write_fails(rt: HostRuntime) {
             };
             let result = run_over_nothing(&rt, alloc, TEXT, writer);
             assert_same!(rt; result, Err(RunFault::Write); calls);
-            assert_same!(rt; Some(written.as_slice()), REPLIES.get(..bytes); calls);
+            assert_eq!(rt;
+                Some(written.as_slice()),
+                REPLIES.get(..bytes),
+                "after {calls}"
+            );
         }
     }
 }
@@ -333,10 +341,10 @@ fn run_buffered_ends_at_a_long_line(rt: HostRuntime) -> Result<(), Fail> {
     let mut written = Vec::new(alloc);
     let result = run_over_nothing(&rt, alloc, text.as_slice(), &mut written);
     assert_same!(rt; result, Err(RunFault::LineTooLong));
-    assert_same!(rt; written.as_slice(), b"bad\n".as_slice());
+    assert_same!(rt; *written.as_slice(), *b"bad\n".as_slice());
     written.clear();
     let result = run_over_nothing(&rt, alloc, text.get(..longest).unwrap_or(b""), &mut written);
     assert_same!(rt; result, Ok(()));
-    assert_same!(rt; written.as_slice(), b"bad\n".as_slice());
+    assert_same!(rt; *written.as_slice(), *b"bad\n".as_slice());
     Ok(())
 }

@@ -36,7 +36,7 @@ fn choices_are_a_file_and_options_in_any_order(rt: HostRuntime) -> Result<(), Fa
     ];
     let words = words_of(alloc, &texts)?;
     let choice = Choice::read(&words).ok_or("no choice")?;
-    assert_same!(rt; choice.file, "a.records");
+    assert_same!(rt; *choice.file, *"a.records");
     let (options, preferences) = (choice.options, choice.prefs);
     assert_same!(rt; options.strength, Some(Strength::Identical));
     assert_same!(rt; options.alternate_handling, Some(AlternateHandling::Shifted));
@@ -51,7 +51,7 @@ fn choices_are_a_file_and_options_in_any_order(rt: HostRuntime) -> Result<(), Fa
 fn what_no_word_gives_is_left_open(rt: HostRuntime) -> Result<(), Fail> {
     let words = words_of(rt.alloc(), &["strength=primary"])?;
     let choice = Choice::read(&words).ok_or("no choice")?;
-    assert_same!(rt; choice.file, "strength=primary");
+    assert_same!(rt; *choice.file, *"strength=primary");
     let (options, preferences) = (choice.options, choice.prefs);
     assert_same!(rt; options.strength, None);
     assert_same!(rt; options.alternate_handling, None);
@@ -59,7 +59,7 @@ fn what_no_word_gives_is_left_open(rt: HostRuntime) -> Result<(), Fail> {
     assert_same!(rt; options.case_level, None);
     assert_same!(rt; preferences.case_first, None);
     assert_same!(rt; preferences.numeric_ordering, None);
-    assert_same!(rt; preferences.locale, "");
+    assert_same!(rt; *preferences.locale, *"");
     assert!(rt; preferences.collation_type.is_none());
     Ok(())
 }
@@ -138,7 +138,7 @@ fn a_run_answers_in_order(rt: HostRuntime) -> Result<(), Fail> {
     ];
     for (word, commands, replies) in rows {
         let text = written(alloc, &["a.records", word], LETTERS, commands)?;
-        assert_same!(rt; text.as_slice(), replies; word);
+        assert_same!(rt; *text.as_slice(), *replies; word);
     }
     Ok(())
 }
@@ -173,7 +173,7 @@ fn numbers_stand_by_value(rt: HostRuntime) -> Result<(), Fail> {
     let commands = b"add a10\nadd a9\nadd a010\nlist\n";
     let text = written(rt.alloc(), &words, DIGITS, commands)?;
     let replies = b"added\nadded\nadded\nnames 3\na9\na10\na010\n";
-    assert_same!(rt; text.as_slice(), replies.as_slice());
+    assert_same!(rt; *text.as_slice(), *replies.as_slice());
     Ok(())
 }
 
@@ -249,7 +249,7 @@ fn each_option_tells_in_keys(rt: HostRuntime) -> Result<(), Fail> {
     ];
     for (words, key) in rows {
         let text = written(alloc, words, SIGNS, b"key a A.+$1\n")?;
-        assert_same!(rt; text.as_slice(), key; words);
+        assert_same!(rt; *text.as_slice(), *key; words);
     }
     Ok(())
 }

@@ -158,7 +158,7 @@ fn the_program_reads_one_byte_past_the_limit(rt: HostRuntime) -> Result<(), Fail
     for (file, status, text) in rows {
         let answer = served(alloc, limits, Ok(file), true, b"add a\nlist\n")?;
         assert_same!(rt; answer.0, status);
-        assert_same!(rt; answer.2.as_slice(), text);
+        assert_same!(rt; *answer.2.as_slice(), *text);
     }
     Ok(())
 }
@@ -168,11 +168,11 @@ fn want_of_an_input_is_told_behind_faults_of_the_file(rt: HostRuntime) -> Result
     let alloc = rt.alloc();
     let memory = served(alloc, Limits::STANDARD, Ok(LETTERS), false, b"list\n")?;
     assert_same!(rt; memory.0, 1);
-    assert_same!(rt; memory.2.as_slice(), b"collate: memory\n".as_slice());
+    assert_same!(rt; *memory.2.as_slice(), *b"collate: memory\n".as_slice());
     let lacking = io::Error::from(io::ErrorKind::NotFound);
     let unreadable = served(alloc, Limits::STANDARD, Err(lacking), false, b"list\n")?;
     assert_same!(rt; unreadable.0, 1);
-    assert_same!(rt; unreadable.2.as_slice(), b"collate: cannot read a.records\n".as_slice());
+    assert_same!(rt; *unreadable.2.as_slice(), *b"collate: cannot read a.records\n".as_slice());
     Ok(())
 }
 
@@ -198,7 +198,7 @@ fn a_reload_takes_lines_past_its_limit(rt: HostRuntime) -> Result<(), Fail> {
     for (commands, replies) in rows {
         let answer = served(alloc, limits, Ok(b"".as_slice()), true, commands)?;
         assert_same!(rt; answer.0, 0);
-        assert_same!(rt; answer.1.as_slice(), replies);
+        assert_same!(rt; *answer.1.as_slice(), *replies);
     }
     Ok(())
 }

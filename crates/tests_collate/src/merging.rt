@@ -54,7 +54,7 @@ fn ok_merge_lines(rt: HostRuntime) -> Result<(), Fail> {
     let expected: &[u8] =
         b"\nab\n\xE1\xBA\xA1\xCC\x81b\na\xCC\x81\xCC\xA3b\n\xC3\xA1\xCC\xA3b\nabe\nba\nba\xCC\x81\n\
 b\xC3\xA1\nb\xC3\xA1\nbab\nbe\ncab\nco\ntb\n";
-    assert_same!(rt; written.as_slice(), expected);
+    assert_same!(rt; *written.as_slice(), *expected);
     Ok(())
 }
 
@@ -69,7 +69,7 @@ fn of_equal_lines_the_first_is_written(rt: HostRuntime) -> Result<(), Fail> {
     result?;
     let expected: &[u8] =
         b"\nab\n\xE1\xBA\xA1\xCC\x81b\nabe\nba\nba\xCC\x81\nbab\nbe\ncab\nco\ntb\n";
-    assert_same!(rt; written.as_slice(), expected);
+    assert_same!(rt; *written.as_slice(), *expected);
     Ok(())
 }
 
@@ -91,7 +91,7 @@ fn equal_lines_stand_by_their_readers_where_the_greatest_is_first(
     let expected: &[u8] =
         b"tb\nco\ncab\nbe\nbab\nba\xCC\x81\nb\xC3\xA1\nb\xC3\xA1\nba\nabe\n\xE1\xBA\xA1\xCC\x81b\n\
 a\xCC\x81\xCC\xA3b\n\xC3\xA1\xCC\xA3b\nab\n\n";
-    assert_same!(rt; written.as_slice(), expected);
+    assert_same!(rt; *written.as_slice(), *expected);
     Ok(())
 }
 
@@ -102,7 +102,7 @@ fn no_reader_and_no_line_are_merged(rt: HostRuntime) -> Result<(), Fail> {
     assert!(rt; written.is_empty());
     let (written, result) = merged(rt.alloc(), Direction::Ascending, false, &[b"", b"ab", b""])?;
     result?;
-    assert_same!(rt; written.as_slice(), b"ab\n".as_slice());
+    assert_same!(rt; *written.as_slice(), *b"ab\n".as_slice());
     Ok(())
 }
 
@@ -115,7 +115,7 @@ fn line_out_of_order_is_told(rt: HostRuntime) -> Result<(), Fail> {
         &[b"ab\nco\n", b"ba\nbe\nbab\n"],
     )?;
     assert!(rt; matches!(result, Err(MergeError::Unordered { reader: 1, line: 3 })));
-    assert_same!(rt; written.as_slice(), b"ab\nba\nbe\n".as_slice());
+    assert_same!(rt; *written.as_slice(), *b"ab\nba\nbe\n".as_slice());
     Ok(())
 }
 
@@ -137,7 +137,7 @@ fn fields_are_compared(rt: HostRuntime) -> Result<(), Fail> {
     let mut written = Vec::new(alloc);
     merge_lines(alloc, &order, part, false, b'\0', readers, &mut written)?;
     let expected: &[u8] = b"co\0co;ab\0tb;ba\0ab;b\xC3\xA1\0ab;ba\xCC\x81\0";
-    assert_same!(rt; written.as_slice(), expected);
+    assert_same!(rt; *written.as_slice(), *expected);
     Ok(())
 }
 
@@ -155,7 +155,7 @@ fn a_carriage_return_before_the_end_isnt_compared(rt: HostRuntime) -> Result<(),
     let mut written = Vec::new(alloc);
     merge_lines(alloc, &order, part, false, b'\n', readers, &mut written)?;
     let expected: &[u8] = b"ab\r\nab\nb\nb\r\n";
-    assert_same!(rt; written.as_slice(), expected);
+    assert_same!(rt; *written.as_slice(), *expected);
     Ok(())
 }
 
@@ -201,7 +201,7 @@ fn read_fault_is_told(rt: HostRuntime) -> Result<(), Fail> {
             })
         )
     );
-    assert_same!(rt; written.as_slice(), b"ab\nba\nbe\n".as_slice());
+    assert_same!(rt; *written.as_slice(), *b"ab\nba\nbe\n".as_slice());
     Ok(())
 }
 
@@ -230,7 +230,7 @@ fn write_fault_is_told(rt: HostRuntime) -> Result<(), Fail> {
             &mut writer,
         );
         assert!(rt; matches!(result, Err(MergeError::Write(_))));
-        assert_same!(rt; written.as_slice(), b"ab\nb".as_slice());
+        assert_same!(rt; *written.as_slice(), *b"ab\nb".as_slice());
     }
     Ok(())
 }

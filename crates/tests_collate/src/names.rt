@@ -282,6 +282,6 @@ fn ok_collator_of(rt: HostRuntime) -> Result<(), Fail> {
     collator
         .as_borrowed()
         .write_sort_key_to(rt.alloc(), "a", &mut key)?;
-    assert_same!(rt; key.as_slice(), b"\x2a\x10\x01\x05\x01\x01\x05\x01".as_slice());
+    assert_same!(rt; *key.as_slice(), *b"\x2a\x10\x01\x05\x01\x01\x05\x01".as_slice());
     Ok(())
 }

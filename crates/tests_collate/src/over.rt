@@ -43,7 +43,7 @@ fn ok_serve_over(rt: HostRuntime) -> Result<(), Fail> {
     let alloc = rt.alloc();
     let alone = served(alloc, Ok(ROOT), Ok(b""))?;
     assert_same!(rt; alone.0, 0);
-    assert_same!(rt; alone.1.as_slice(), b"added\nadded\nnames 2\na\nb\n".as_slice());
+    assert_same!(rt; *alone.1.as_slice(), *b"added\nadded\nnames 2\na\nb\n".as_slice());
     // the t line has effect, and so has the setting that the root sets otherwise
     let over = served(
         alloc,
@@ -51,8 +51,8 @@ fn ok_serve_over(rt: HostRuntime) -> Result<(), Fail> {
         Ok(b"set numeric 10\nt 0062 ; [2A080000.0500.0.0500.0]"),
     )?;
     assert_same!(rt; over.0, 0);
-    assert_same!(rt; over.1.as_slice(), b"added\nadded\nnames 2\nb\na\n".as_slice());
-    assert_same!(rt; over.2.as_slice(), b"".as_slice());
+    assert_same!(rt; *over.1.as_slice(), *b"added\nadded\nnames 2\nb\na\n".as_slice());
+    assert_same!(rt; *over.2.as_slice(), *b"".as_slice());
     Ok(())
 }
 
@@ -94,8 +94,8 @@ fn faults_are_told_by_their_file(rt: HostRuntime) -> Result<(), Fail> {
     for (root, file, text) in rows {
         let answer = served(alloc, root, file)?;
         assert_same!(rt; answer.0, 1);
-        assert_same!(rt; answer.1.as_slice(), b"".as_slice());
-        assert_same!(rt; answer.2.as_slice(), text);
+        assert_same!(rt; *answer.1.as_slice(), *b"".as_slice());
+        assert_same!(rt; *answer.2.as_slice(), *text);
     }
     Ok(())
 }

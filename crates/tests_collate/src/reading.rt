@@ -12,11 +12,11 @@ fn ok_next(rt: HostRuntime) -> Result<(), Fail> {
     let mut lines = LineReader::new(bytes, b';');
     let mut line = Vec::new(rt.alloc());
     assert!(rt; lines.next(&mut line)?);
-    assert_same!(rt; line.as_slice(), b"ab".as_slice());
+    assert_same!(rt; *line.as_slice(), *b"ab".as_slice());
     assert!(rt; lines.next(&mut line)?);
-    assert_same!(rt; line.as_slice(), b"".as_slice());
+    assert_same!(rt; *line.as_slice(), *b"".as_slice());
     assert!(rt; lines.next(&mut line)?);
-    assert_same!(rt; line.as_slice(), b"c".as_slice());
+    assert_same!(rt; *line.as_slice(), *b"c".as_slice());
     assert!(rt; !lines.next(&mut line)?);
     Ok(())
 }
@@ -33,6 +33,6 @@ fn fault_in_a_line_is_told(rt: HostRuntime) -> Result<(), Fail> {
     let mut line = Vec::new(rt.alloc());
     assert!(rt; lines.next(&mut line)?);
     assert!(rt; matches!(lines.next(&mut line), Err(ReadLineError::Read(_))));
-    assert_same!(rt; line.as_slice(), b"cd".as_slice());
+    assert_same!(rt; *line.as_slice(), *b"cd".as_slice());
     Ok(())
 }

@@ -70,7 +70,7 @@ fn ok_run(rt: HostRuntime) {
     let mut written = Vec::new(alloc);
     let result = run_over_nothing(&rt, alloc, TEXT, &mut written);
     assert_same!(rt; result, Ok(()));
-    assert_same!(rt; written.as_slice(), REPLIES);
+    assert_same!(rt; *written.as_slice(), *REPLIES);
 }
 
 #[test]
@@ -90,7 +90,7 @@ fn ok_run_with_seed(rt: HostRuntime) -> Result<(), Fail> {
         &mut writer,
     );
     assert_same!(rt; result, Ok(()));
-    assert_same!(rt; written.as_slice(), REPLIES);
+    assert_same!(rt; *written.as_slice(), *REPLIES);
     Ok(())
 }
 
@@ -123,7 +123,11 @@ fn run_ends_where_a_read_fails(rt: HostRuntime) {
             };
             let result = run_over_nothing(&rt, alloc, reader, &mut written);
             assert_same!(rt; result, Err(RunFault::Read); calls);
-            assert_same!(rt; Some(written.as_slice()), REPLIES.get(..bytes); calls);
+            assert_eq!(rt;
+                Some(written.as_slice()),
+                REPLIES.get(..bytes),
+                "after {calls}"
+            );
         }
     }
 }
@@ -148,7 +152,11 @@ fn run_ends_where_a_write_fails(rt: HostRuntime) {
             };
             let result = run_over_nothing(&rt, alloc, TEXT, writer);
             assert_same!(rt; result, Err(RunFault::Write); calls);
-            assert_same!(rt; Some(written.as_slice()), REPLIES.get(..bytes); calls);
+            assert_eq!(rt;
+                Some(written.as_slice()),
+                REPLIES.get(..bytes),
+                "after {calls}"
+            );
         }
     }
 }
@@ -163,11 +171,11 @@ fn run_ends_at_a_long_line(rt: HostRuntime) -> Result<(), Fail> {
     let mut written = Vec::new(alloc);
     let result = run_over_nothing(&rt, alloc, text.as_slice(), &mut written);
     assert_same!(rt; result, Err(RunFault::LineTooLong));
-    assert_same!(rt; written.as_slice(), b"bad\n".as_slice());
+    assert_same!(rt; *written.as_slice(), *b"bad\n".as_slice());
     written.clear();
     let result = run_over_nothing(&rt, alloc, text.get(..longest).unwrap_or(b""), &mut written);
     assert_same!(rt; result, Ok(()));
-    assert_same!(rt; written.as_slice(), b"bad\n".as_slice());
+    assert_same!(rt; *written.as_slice(), *b"bad\n".as_slice());
     Ok(())
 }
 
@@ -198,7 +206,7 @@ fn assert_served(
     });
     let status = serve::serve(alloc, choice, file, &mut reader, &mut writer, &mut errors);
     assert_same!(rt; status, wanted.0);
-    assert_same!(rt; errors.as_slice(), wanted.1);
+    assert_same!(rt; *errors.as_slice(), *wanted.1);
 }
 
 #[test]
@@ -219,8 +227,8 @@ fn ok_serve(rt: HostRuntime) -> Result<(), Fail> {
         &mut errors,
     );
     assert_same!(rt; status, 0);
-    assert_same!(rt; written.as_slice(), REPLIES);
-    assert_same!(rt; errors.as_slice(), b"".as_slice());
+    assert_same!(rt; *written.as_slice(), *REPLIES);
+    assert_same!(rt; *errors.as_slice(), *b"".as_slice());
     Ok(())
 }
 
@@ -279,8 +287,8 @@ fn serve_drops_an_error_of_the_writer_of_errors(rt: HostRuntime) {
     let file = Err(FileFault::Unreadable);
     let status = serve::serve(alloc, None, file, &mut reader, &mut writer, &mut errors);
     assert_same!(rt; status, 2);
-    assert_same!(rt; told.as_slice(), b"usage: c".as_slice());
-    assert_same!(rt; written.as_slice(), b"".as_slice());
+    assert_same!(rt; *told.as_slice(), *b"usage: c".as_slice());
+    assert_same!(rt; *written.as_slice(), *b"".as_slice());
 }
 
 #[test]
@@ -296,7 +304,7 @@ fn each_fault_of_a_run_has_its_line(rt: HostRuntime) {
     for (fault, line) in rows {
         let mut errors = Vec::new(rt.alloc());
         serve::tell_run_fault(&mut errors, fault);
-        assert_same!(rt; errors.as_slice(), line);
+        assert_same!(rt; *errors.as_slice(), *line);
     }
 }
 

@@ -141,9 +141,9 @@ fn ok_write_key(rt: HostRuntime) -> Result<(), Fail> {
     list.add(b"x", Some(b"ba\xCC\x81"))?;
     let mut key = Vec::new(rt.alloc());
     order.write_key(b"b\xC3\xA1", &mut key)?;
-    assert_same!(rt; list.key(0), Some(key.as_slice()));
-    assert_same!(rt; list.key(1), Some(key.as_slice()));
-    assert_same!(rt; list.key(2), None);
+    assert_eq!(rt; list.key(0), Some(key.as_slice()));
+    assert_eq!(rt; list.key(1), Some(key.as_slice()));
+    assert_eq!(rt; list.key(2), None);
     assert!(rt; order.direction() == Direction::Ascending);
     Ok(())
 }

@@ -105,7 +105,7 @@ fn assert_reads(
     };
     assert_same!(rt; end, Err(wanted); (most, calls));
     let replies = replies_within(alloc, bytes)?;
-    assert_same!(rt; written.as_slice(), replies.as_slice(); (most, calls));
+    assert_same!(rt; *written.as_slice(), *replies.as_slice(); (most, calls));
     Ok(())
 }
 

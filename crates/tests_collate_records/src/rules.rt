@@ -19,12 +19,12 @@ fn errors_print(rt: HostRuntime) -> Result<(), Fail> {
         line: 1048577,
         rule: Rule::Grammar,
     };
-    assert_same!(rt; shown(alloc, &Rule::V14)?.as_str(), "V14");
-    assert_same!(rt; shown(alloc, &fault)?.as_str(), "1048577 grammar");
+    assert_same!(rt; *shown(alloc, &Rule::V14)?.as_str(), *"V14");
+    assert_same!(rt; *shown(alloc, &fault)?.as_str(), *"1048577 grammar");
     let refused = RecordsError::Fault(fault);
-    assert_same!(rt; shown(alloc, &refused)?.as_str(), "1048577 grammar");
+    assert_same!(rt; *shown(alloc, &refused)?.as_str(), *"1048577 grammar");
     let refused = RecordsError::Memory;
-    assert_same!(rt; shown(alloc, &refused)?.as_str(), "out of memory");
+    assert_same!(rt; *shown(alloc, &refused)?.as_str(), *"out of memory");
     Ok(())
 }
 
