@@ -140,11 +140,11 @@ fn a_record_line_may_be_as_long_as_a_command(rt: HostRuntime) -> Result<(), Fail
     let longest = vec![in alloc; b'x'; 65_536]?;
     let commands: [&[u8]; 3] = [b"reload 1\n", &longest, b"\nlist\n"];
     let (text, result) = ran(alloc, LETTERS, &commands)?;
-    assert_same!(rt; *text.as_slice(), *b"refused 1 grammar\nnames 0\n".as_slice());
-    assert_same!(rt; result, Ok(()));
+    assert_eq!(rt; text.as_slice(), b"refused 1 grammar\nnames 0\n".as_slice());
+    assert_eq!(rt; result, Ok(()));
     let commands: [&[u8]; 3] = [b"reload 2\n", &longest, b"x"];
     let (text, result) = ran(alloc, LETTERS, &commands)?;
-    assert_same!(rt; *text.as_slice(), *b"".as_slice());
-    assert_same!(rt; result, Err(RunFault::LineTooLong));
+    assert_eq!(rt; text.as_slice(), b"".as_slice());
+    assert_eq!(rt; result, Err(RunFault::LineTooLong));
     Ok(())
 }
