@@ -1,5 +1,6 @@
 //! What tests assert of two values. `assert_eq!` is proved anew wherever it stands, for one second to three, `assert_same!`
-//! in a third of that.
+//! in a third of that. One that fails ends the test: it prints its own line, `not the same`, and both values as
+//! `Different { left: .., right: .. }`, or `DifferentIn` with the case before them.
 #![tactic(auto)]
 
 use std::fmt::Debug;
@@ -7,15 +8,20 @@ use std::fmt::Debug;
 /// Two values that should be the same.
 #[derive(Debug, Drop)]
 pub struct Different<T: Drop> {
+    /// What stands first in the assertion.
     pub left: T,
+    /// What stands second.
     pub right: T,
 }
 
 /// Two values that should be the same in a case.
 #[derive(Debug, Drop)]
 pub struct DifferentIn<C: Drop, T: Drop> {
+    /// Which of several cases it is.
     pub case: C,
+    /// What stands first in the assertion.
     pub left: T,
+    /// What stands second.
     pub right: T,
 }
 
