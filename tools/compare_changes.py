@@ -5,18 +5,17 @@
 
 READING is a folder with an independent reading of the format in Python, as tools/reading: a module `records`
 (`read`, `Fault`). There are 5,000 pairs unless PAIRS says otherwise, of accepted files most of which differ in a few lines
-(tools/random_changes.py), with some 50 questions each. crates/tests_records_rows has to be built (`rt run` in its folder;
-RECORDS_ROWS names another executable, and `none` none: then the answers are only counted). How often each answer is right is
+(tools/random_changes.py), with some 50 questions each. crates/tests_collation_rows has to be built (`rt run` in its folder;
+COLLATION_ROWS names another executable, and `none` none: then the answers are only counted). How often each answer is right is
 printed, and each that differs with its files; the status is then 1.
 """
 import collections
 import multiprocessing
-import os
 import random
-import subprocess
 import sys
 
-from compare_records import PROGRAM, data_of
+from answers import PROGRAM, ask
+from compare_records import data_of
 from random_changes import questions, random_pair
 from record_questions import answer_of
 
@@ -50,8 +49,7 @@ def compared(asked):
     counts = collections.Counter(answer for _, _, answers in made for _, answer in answers)
     if PROGRAM == 'none':
         return counts, []
-    script = '\n'.join(paragraphs_of(number, *pair) for number, pair in enumerate(made))
-    given = iter(subprocess.run([PROGRAM], input=script.encode(), stdout=subprocess.PIPE, check=True).stdout.decode().split('\n'))
+    given = iter(ask('\n'.join(['files\n', *(paragraphs_of(number, *pair) for number, pair in enumerate(made))])))
     differing = []
     for number, (first, second, answers) in enumerate(made):
         right = [f'{number}: accepted', *(f'? {number}, {question}: {answer}' for question, answer in answers)]

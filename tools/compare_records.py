@@ -5,21 +5,18 @@
 
 READING is a folder with an independent reading of the format in Python, as tools/reading: a module `records`
 (`read`, `Fault`). There are 50,000 files unless FILES says otherwise, most of them near to a rule on either side
-(tools/random_files.py). Each is accepted, or refused with a line and a rule, by both. crates/tests_records_rows has to be built
-(`rt run` in its folder; RECORDS_ROWS names another executable, and `none` none: then the files are only counted). How often
+(tools/random_files.py). Each is accepted, or refused with a line and a rule, by both. crates/tests_collation_rows has to be built
+(`rt run` in its folder; COLLATION_ROWS names another executable, and `none` none: then the files are only counted). How often
 each rule is the first fault is printed, and each file that differs; the status is then 1.
 """
 import collections
 import multiprocessing
-import os
 import random
-import subprocess
 import sys
 
+from answers import PROGRAM, ask
 from random_files import random_file
 
-ROOT = os.path.dirname(os.path.dirname(os.path.realpath(__file__)))
-PROGRAM = os.environ.get('RECORDS_ROWS', os.path.join(ROOT, 'crates/tests_records_rows/out/tests_records_rows'))
 FILES_A_SCRIPT = 250
 
 
@@ -51,9 +48,7 @@ def compared(asked):
     counts = collections.Counter(answer.split(' ')[-1] for answer in right)
     if PROGRAM == 'none':
         return counts, []
-    script = '\n'.join(paragraph_of(number, *file) for number, file in enumerate(files))
-    given = subprocess.run([PROGRAM], input=script.encode(), stdout=subprocess.PIPE,
-                           check=True).stdout.decode().split('\n')[:-1]
+    given = ask('\n'.join(['files\n', *(paragraph_of(number, *file) for number, file in enumerate(files))]))
     given = [line.partition(': ')[2] for line in given] + ['nothing'] * (count - len(given))
     return counts, [(data_of(*file), one, other) for file, one, other in zip(files, right, given) if one != other]
 

@@ -1,7 +1,7 @@
 """Pairs of records files and what they say differently, worked out by hand (docs/RECORDS.md): tools/record_rows.py.
 
 A group has a title, the lines of the first file, and rows: a title, the lines of a second file, and questions with their
-answers, or the first fault. Lines and elements stand as in tools/record_tables.py, questions as in crates/tests_records_rows."""
+answers, or the first fault. Lines and elements stand as in tools/record_tables.py, questions as in crates/tests_collation_rows."""
 
 from record_rule_tables import MARKS
 

@@ -2,7 +2,7 @@
 
 
 def answer_of(first, second, question):
-    """Its answer to a question of crates/tests_records_rows on two files that it read."""
+    """Its answer to a question of crates/tests_collation_rows on two files that it read."""
     asked, *words = question.split(' ')
     if asked == 'settings':
         return 'equal' if first.settings_equal(second) else 'different'

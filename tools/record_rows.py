@@ -1,22 +1,14 @@
-#!/usr/bin/env python3
-"""Writes the stored script of crates/tests_records_rows and its answers: record_rows.py READING [--check]
-
-The files and their answers stand in tools/record_tables.py and, the fewest lines that break each rule, in
-tools/fewest_lines.tsv; pairs of files, with questions and answers, in tools/record_pair_tables.py. READING is a folder
-with an independent reading of the format, a module `records` (`read`, `Fault`), which has to answer the same. With
---check nothing is written: the two files have to be what they are.
-"""
+"""The files of records among the rows of tools/rows.py, behind a paragraph `files`. They and their answers stand in
+tools/record_tables.py and, the fewest lines that break each rule, in tools/fewest_lines.tsv; pairs of files, with questions and
+answers, in tools/record_pair_tables.py. The other reading, a module `records` (`read`, `Fault`), has to answer the same."""
 import os
 import re
-import sys
 
 from record_pair_tables import PAIRS
 from record_questions import answer_of
 from record_tables import SECTIONS
 
-ROOT = os.path.dirname(os.path.dirname(os.path.realpath(__file__)))
-FOLDER = os.path.join(ROOT, 'crates/tests_records_rows')
-FEWEST = os.path.join(ROOT, 'tools/fewest_lines.tsv')
+FEWEST = os.path.join(os.path.dirname(os.path.realpath(__file__)), 'fewest_lines.tsv')
 
 
 def spelled(line):
@@ -93,31 +85,14 @@ def pair_paragraphs(oracle):
                 yield heading, second + questions, pair_answers(oracle, heading, (first, second), answers)
 
 
-def main(words):
-    if len(words) not in (1, 2) or words[1:] not in ([], ['--check']):
-        sys.stderr.write(__doc__)
-        return 2
-    sys.path.insert(0, words[0])
-    import records as oracle
-    made = [*file_paragraphs(oracle), *pair_paragraphs(oracle)]
+def files_and_answers(oracle):
+    """The script, its answers, and how many differ from the other reading's."""
+    made = [('files', [], []), *file_paragraphs(oracle), *pair_paragraphs(oracle)]
     answers = [answer for _, _, answers in made for answer in answers]
     differing = [answer for answer in answers if answer[1] != answer[2]]
     for what, answer, given in differing:
-        print(f'{what}: {answer} by hand, {given} by {words[0]}')
+        print(f'{what}: {answer} by hand, {given} by the other reading')
     shown = [f'{what}: {answer}\n' for what, answer, _ in answers]
     assert len(set(shown)) == len(shown), 'a title twice'
-    differ = len(differing)
     script = '\n'.join(''.join(f'{line}\n' for line in [heading, *lines]) for heading, lines, _ in made)
-    for name, text in (('stdin', script), ('stdout', ''.join(shown))):
-        path = os.path.join(FOLDER, name)
-        if words[1:]:
-            differ += open(path, newline='').read() != text
-        else:
-            with open(path, 'w', newline='') as file:
-                file.write(text)
-    print(f'{len(shown)} answers, {differ} differ')
-    return differ != 0
-
-
-if __name__ == '__main__':
-    sys.exit(main(sys.argv[1:]))
+    return script, ''.join(shown), len(differing)

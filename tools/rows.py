@@ -1,15 +1,16 @@
 #!/usr/bin/env python3
 """Writes the stored script of crates/tests_collation_rows and its answers: rows.py READING [--check]
 
-READING is a folder with an independent reading of the definitions (tools/answers.py) and of the program (tools/run_rows.py), which
-gives the answers. Those of worked rows, and all of what a provider's changed tables are refused for, stand here, and are
-compared with it. With --check nothing is written: the two files have to be what they are, and the program, which has to be
-built (`rt run` in its folder), has to answer so.
+READING is a folder with an independent reading of the definitions (tools/answers.py), of the program (tools/run_rows.py) and of
+the format of records (tools/record_rows.py), which gives the answers. Those of worked rows and of files, and all of what a
+provider's changed tables are refused for, stand here, and are compared with it. With --check nothing is written: the two files
+have to be what they are, and the program, which has to be built (`rt run` in its folder), has to answer so.
 """
 import os
 import sys
 
 from answers import FOLDER, answers, ask, load
+from record_rows import files_and_answers
 from row_tables import CHANGES, SECTIONS
 from run_rows import script_and_replies
 
@@ -109,15 +110,17 @@ def main(words):
         return 2
     questions, answered = script_and_answers(load(words[0]))
     import model
-    runs, replies, differ = script_and_replies(model)
-    script, shown = f'{questions}\n{runs}', answered + replies
-    print(f'{len(shown.splitlines())} answers, {differ} runs differ from what is worked out')
+    import records
+    runs, replies, other_runs = script_and_replies(model)
+    files, found, other_files = files_and_answers(records)
+    script, shown, differ = f'{questions}\n{runs}\n{files}', answered + replies + found, other_runs + other_files
+    print(f'{len(shown.splitlines())} answers, {other_runs} runs and {other_files} answers on files differ from what is worked out')
     for name, text in (('stdin', script), ('stdout', shown)):
         path = os.path.join(FOLDER, name)
         if words[1:]:
-            differ += open(path).read() != text
+            differ += open(path, newline='').read() != text
         else:
-            with open(path, 'w') as file:
+            with open(path, 'w', newline='') as file:
                 file.write(text)
     if words[1:]:
         differ += sum(one != other for one, other in zip(ask(script) + [''], shown.split('\n')))

@@ -29,7 +29,7 @@ pub fn shown(alloc: Global, bytes: &[u8]) -> Option<String> {
 }
 
 /// The character of a number in hexadecimal.
-fn character(word: &str) -> Option<char> {
+pub fn character(word: &str) -> Option<char> {
     char::from_u32(u32::from_str_radix(word, 16).ok()?)
 }
 

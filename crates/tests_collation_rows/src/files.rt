@@ -2,15 +2,20 @@
 
 use collate_records::records::Records;
 
+/// Prints a title with what the reader answers to a file.
+pub fn print_read(rt: &HostRuntime, title: &str, file: &[u8]) -> Option<()> {
+    match Records::read(rt.alloc(), file) {
+        Ok(_) => println!(rt; "{title}: accepted").ok(),
+        Err(error) => println!(rt; "{title}: {error}").ok(),
+    }
+}
+
 /// Prints the answer to a question.
 fn answer_line(rt: &HostRuntime, records: &str, line: &str) -> Option<()> {
     if line != "read" {
         return None;
     }
-    match Records::read(rt.alloc(), records.as_bytes()) {
-        Ok(_) => println!(rt; "{line}: accepted").ok(),
-        Err(error) => println!(rt; "{line}: {error}").ok(),
-    }
+    print_read(rt, line, records.as_bytes())
 }
 
 /// Asks the reader what these lines do; `None` where one asks nothing.

@@ -1,4 +1,4 @@
-//! Answers a script of questions about collations, and serves runs: `tests_collation_rows < SCRIPT`.
+//! Answers a script of questions about collations and files of records, and serves runs: `tests_collation_rows < SCRIPT`.
 //!
 //! The paragraphs of a script stand apart by an empty line. Each begins with a line that says what it is:
 //!
@@ -7,10 +7,11 @@
 //! - `file`: questions to the reader of records (module `files`).
 //! - `normalisers`: questions to normalisers over the records (module `forms`).
 //! - `collators`: questions to collators over the records (module `asked`).
-//! - `tables`: questions to the tables of the records (module `elements`).
+//! - `tables`: questions to the tables of the records (module `element_rows`).
 //! - `provider`: changes of what a provider gives of the records' tables. The answer to each, upon those before it, is what a
 //!   collator is refused for then, or that it is made (module `provider`).
 //! - `run WORDS`: commands of a run of `collate` over the records (module `runs`).
+//! - `files`: all paragraphs after it are files of records, and questions on two (module `file_paragraphs`).
 //! - `#` and anything: a comment. A question to collators or tables, or a change, may be one too.
 //!
 //! The records are compiled twice, with fast tries and with small ones, and each question is asked over both: where the
@@ -25,6 +26,9 @@ mod asked;
 mod asked_texts;
 mod both;
 mod element_rows;
+mod file_lines;
+mod file_pairs;
+mod file_paragraphs;
 mod files;
 mod forms;
 mod keys;

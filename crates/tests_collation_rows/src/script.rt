@@ -2,6 +2,7 @@
 
 use crate::asked::ask_collators;
 use crate::element_rows::ask_tables;
+use crate::file_paragraphs::answer_file;
 use crate::files::ask_reader;
 use crate::forms::ask_normalisers;
 use crate::provider::try_changes;
@@ -70,13 +71,22 @@ fn answer_paragraph(rt: &HostRuntime, records: Records<'_>, kind: &str, lines: &
     answer_over(rt, records.as_str(), kind, lines)
 }
 
-/// Answers the questions of a script; `None` where a line isn't one of a script's, or memory is refused.
+/// Answers the paragraphs of a script, which are files behind the one that says so; `None` where a line isn't one of a
+/// script's, or memory is refused.
 pub fn answer_script(rt: &HostRuntime, script: &str) -> Option<()> {
     let mut records = Records { file: "", more: "" };
+    let mut below = Vec::new(rt.alloc());
+    let mut are_files = false;
     for paragraph in script.split("\n\n") {
-        let (kind, lines) = halves(paragraph, '\n');
-        records = records.behind(kind, lines);
-        answer_paragraph(rt, records, kind, lines)?;
+        if are_files {
+            below = answer_file(rt, below, paragraph)?;
+        } else if paragraph == "files" {
+            are_files = true;
+        } else {
+            let (kind, lines) = halves(paragraph, '\n');
+            records = records.behind(kind, lines);
+            answer_paragraph(rt, records, kind, lines)?;
+        }
     }
     Some(())
 }

@@ -6,7 +6,8 @@
 //!
 //! A character is its code point, a text its bytes, both in hexadecimal; `-` is a text of none.
 
-use crate::files::put_lines;
+use crate::asked_texts::{bytes, character, characters};
+use crate::file_lines::put_lines;
 use collate_records::records::Records;
 use collate_records::rule::RecordsError;
 use std::alloc::Global;
@@ -24,28 +25,6 @@ fn read_pair(alloc: Global, first: &[u8], second: &[u8]) -> Result<Pair, Records
         first: Records::read(alloc, first)?,
         second: Records::read(alloc, second)?,
     })
-}
-
-/// The character that a word says.
-fn character(word: &str) -> Option<char> {
-    char::from_u32(u32::from_str_radix(word, 16).ok()?)
-}
-
-/// The characters that words say.
-fn characters(alloc: Global, words: &str) -> Option<Vec<char>> {
-    let mut characters = Vec::new(alloc);
-    for word in words.split(' ') {
-        characters.push(character(word)?).ok()?;
-    }
-    Some(characters)
-}
-
-/// The bytes that a word says.
-fn bytes(alloc: Global, word: &str) -> Option<Vec<u8>> {
-    if word == "-" {
-        return Some(Vec::new(alloc));
-    }
-    hex::decode(alloc, word).ok()
 }
 
 /// Whether the settings are equal.
