@@ -9,12 +9,11 @@
 //! - `place TEXT TEXT`: from which index two texts are read: `0`, `1 to 9`, or `at least 10`.
 //! - `options?`: the options that the collator goes by.
 
-use crate::asked_texts::{bytes, shown};
+use crate::asked_texts::{bytes, halves, shown};
 use crate::both::{Both, held_both, print_answers};
 use crate::keys::key_of;
 use crate::options::{options_of, preferences_of};
 use crate::orders::order_of;
-use crate::script::halves;
 use crate::sinks::sink_of;
 use icu_collator::{Collator, CollatorBorrowed};
 use icu_collator_types::options::{CollatorOptions, CollatorPreferences};

@@ -1,4 +1,4 @@
-//! The texts of a question.
+//! The texts of a question, and its parts.
 
 use std::alloc::Global;
 
@@ -40,4 +40,12 @@ pub fn characters(alloc: Global, words: &str) -> Option<Vec<char>> {
         list.push(character(word)?).ok()?;
     }
     Some(list)
+}
+
+/// The two parts of a text before and after the first separator; all of it, and nothing, where there is none.
+pub fn halves(text: &str, separator: char) -> (&str, &str) {
+    match text.split_once(separator) {
+        Some(halves) => halves,
+        None => (text, ""),
+    }
 }

@@ -5,9 +5,8 @@
 //! - `unsafe CHARACTER..`: whether each is one at which no reading begins.
 //! - `compose CHARACTER CHARACTER`: the character that two compose to, or a stroke.
 
-use crate::asked_texts::characters;
+use crate::asked_texts::{characters, halves};
 use crate::both::print_answers;
-use crate::script::halves;
 use icu_codepointtrie::TrieType;
 use icu_collator_core::checked::CheckedTables;
 use samples_icu_collator::compiled::checked_tables;

@@ -10,10 +10,10 @@
 //! A title is printed with `accepted`, or with the line and the rule of the first fault; that of two files with each question
 //! and its answer.
 
+use crate::asked_texts::halves;
 use crate::file_lines::put_file;
 use crate::file_pairs::answer_pair;
 use crate::files::print_read;
-use crate::script::halves;
 
 /// Answers a paragraph, whose lines stand on those of a file or ask of it; the bytes of the file that counts for the next
 /// ones. `None` where a line isn't one of a file's, or memory is refused.

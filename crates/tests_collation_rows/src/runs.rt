@@ -5,7 +5,7 @@
 //! `\t` a TAB. What is printed are the replies, a line each with such bytes written so, what is written to the errors, and the
 //! status.
 
-use crate::script::halves;
+use crate::asked_texts::halves;
 use bstr::{ByteSlice, ByteVec};
 use collate_run::choice::Choice;
 use collate_run::serve::serve;

@@ -1,6 +1,7 @@
 //! The paragraphs of a script.
 
 use crate::asked::ask_collators;
+use crate::asked_texts::halves;
 use crate::element_rows::ask_tables;
 use crate::file_paragraphs::answer_file;
 use crate::files::ask_reader;
@@ -38,14 +39,6 @@ impl<'s> Records<'s> {
             },
             _ => self,
         }
-    }
-}
-
-/// The two parts of a text before and after the first separator; all of it, and nothing, where there is none.
-pub fn halves(text: &str, separator: char) -> (&str, &str) {
-    match text.split_once(separator) {
-        Some(halves) => halves,
-        None => (text, ""),
     }
 }
 
