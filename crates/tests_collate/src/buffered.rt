@@ -3,7 +3,8 @@
 
 use crate::commands::words_of;
 use crate::failing::{FailingReader, FailingWriter, Failure};
-use crate::runs::{OPTIONS, PREFERENCES, REPLIES, TEXT};
+use crate::letters::{PREFERENCES, PRIMARY};
+use crate::runs::{REPLIES, TEXT};
 use assertions::assert_same;
 use collate_records::records::Records;
 use collate_run::buffered::{run_buffered, run_buffered_with_seed, serve_buffered};
@@ -82,7 +83,7 @@ where
         alloc,
         records,
         &PREFERENCES,
-        &OPTIONS,
+        &PRIMARY,
         &mut reader,
         &mut writer,
     );
@@ -119,7 +120,7 @@ fn ok_run_buffered_with_seed(rt: HostRuntime) -> Result<(), Fail> {
         alloc,
         records,
         &PREFERENCES,
-        &OPTIONS,
+        &PRIMARY,
         7,
         &mut reader,
         &mut writer,

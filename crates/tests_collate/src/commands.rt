@@ -1,7 +1,7 @@
 //! The words of the program, and what commands are answered, by whole runs. Expected values come from the specification's
 //! worked examples, and from an independent reading of the file format.
 
-use crate::names::LETTERS;
+use crate::letters::LETTERS;
 use assertions::assert_same;
 use collate_run::choice::Choice;
 use collate_run::serve;

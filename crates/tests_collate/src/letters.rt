@@ -1,14 +1,14 @@
-//! Names over a few letters, and an order of them.
+//! Names over a few letters, an order of them, and options.
 
 use collate_records::records::Records;
 use collate_sort::Direction;
 use collate_sort::order::LineOrder;
-use icu_collator_types::options::{CollatorOptions, CollatorPreferences};
+use icu_collator_types::options::{CollatorOptions, CollatorPreferences, Strength};
 use std::alloc::Global;
 use std::test::Fail;
 
 /// Letters a, b, c, e, h, l, o and t in this order, three marks, and two letters with a mark.
-const LETTERS: &[u8] = b"class 0302 230
+pub(crate) const LETTERS: &[u8] = b"class 0302 230
 class 0323 220
 map 00E1 0061 0301
 map 1EA1 0061 0323
@@ -24,6 +24,22 @@ w 0301 ; [0.8800.0.0500.0]
 w 0302 ; [0.8A00.0.0500.0]
 w 0323 ; [0.8C00.0.0500.0]
 ";
+
+/// No preference.
+pub(crate) const PREFERENCES: CollatorPreferences<'static> = CollatorPreferences {
+    locale: "",
+    collation_type: None,
+    case_first: None,
+    numeric_ordering: None,
+};
+
+/// The primary strength, and nothing else.
+pub(crate) const PRIMARY: CollatorOptions = CollatorOptions {
+    strength: Some(Strength::Primary),
+    alternate_handling: None,
+    max_variable: None,
+    case_level: None,
+};
 
 /// Names, some of which are equal in several spellings.
 pub(crate) const NAMES: [&[u8]; 15] = [

@@ -1,7 +1,7 @@
 //! Limits: how a file at them and one past them are answered, by `Records`, by an index and by the program.
 
 use crate::commands::words_of;
-use crate::names::{LETTERS, PREFERENCES, PRIMARY};
+use crate::letters::{LETTERS, PREFERENCES, PRIMARY};
 use crate::reloads::joined;
 use assertions::assert_same;
 use collate_index::index::{Index, ReloadError};

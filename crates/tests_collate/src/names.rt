@@ -1,6 +1,7 @@
 //! Names over a small records file: what an index and a run answer. Expected values come from the specification's worked
 //! examples, and from an independent reading of the file format.
 
+use crate::letters::{LETTERS, PREFERENCES, PRIMARY};
 use assertions::assert_same;
 use collate_index::collators::collator_of;
 use collate_index::index::{Absent, AddError, Index};
@@ -14,38 +15,6 @@ use std::cmp::Ordering;
 use std::ops::Range;
 use std::process::Abort;
 use std::test::Fail;
-
-/// Letters a, b, c, e, h, l, o and t in this order, three marks, and two letters with a mark.
-pub(crate) const LETTERS: &[u8] = b"class 0302 230
-class 0323 220
-map 00E1 0061 0301
-map 1EA1 0061 0323
-w 0061 ; [2A100000.0500.0.0500.0]
-w 0062 ; [2A200000.0500.0.0500.0]
-w 0063 ; [2A300000.0500.0.0500.0]
-w 0065 ; [2A500000.0500.0.0500.0]
-w 0068 ; [2A800000.0500.0.0500.0]
-w 006C ; [2AC00000.0500.0.0500.0]
-w 006F ; [2AF00000.0500.0.0500.0]
-w 0074 ; [2B400000.0500.0.0500.0]
-w 0301 ; [0.8800.0.0500.0]
-w 0302 ; [0.8A00.0.0500.0]
-w 0323 ; [0.8C00.0.0500.0]
-";
-
-pub(crate) const PREFERENCES: CollatorPreferences<'static> = CollatorPreferences {
-    locale: "",
-    collation_type: None,
-    case_first: None,
-    numeric_ordering: None,
-};
-
-pub(crate) const PRIMARY: CollatorOptions = CollatorOptions {
-    strength: Some(Strength::Primary),
-    alternate_handling: None,
-    max_variable: None,
-    case_level: None,
-};
 
 const TERTIARY: CollatorOptions = CollatorOptions {
     strength: None,

@@ -1,7 +1,8 @@
 //! Reloads, of an index and by whole runs. Expected values come from the specification's worked examples, and from an
 //! independent reading of the file format.
 
-use crate::names::{LETTERS, PREFERENCES, PRIMARY, index_of, lists};
+use crate::letters::{LETTERS, PREFERENCES, PRIMARY};
+use crate::names::{index_of, lists};
 use assertions::assert_same;
 use collate_index::index::ReloadError;
 use collate_records::records::Records;

@@ -2,6 +2,7 @@
 
 use crate::commands::words_of;
 use crate::failing::{FailingReader, FailingWriter, Failure};
+use crate::letters::{PREFERENCES, PRIMARY};
 use assertions::assert_same;
 use collate_index::index::{Absent, AddError, ReloadError};
 use collate_records::records::Records;
@@ -9,7 +10,6 @@ use collate_run::choice::Choice;
 use collate_run::run::{self, RunFault};
 use collate_run::serve::{self, FileFault};
 use collate_run::watched::Watched;
-use icu_collator_types::options::{CollatorOptions, CollatorPreferences, Strength};
 use std::alloc::{AllocError, Global};
 use std::fmt::Display;
 use std::io::{self, Read, Write};
@@ -20,20 +20,6 @@ pub(crate) const TEXT: &[u8] = b"add b\nadd b\nlist\nfind b\n\nreload 1\nremove 
 
 pub(crate) const REPLIES: &[u8] =
     b"added\nduplicate\nnames 1\nb\nnames 1\nb\nbad\nrefused 1 grammar\nbad\nbad\n";
-
-pub(crate) const OPTIONS: CollatorOptions = CollatorOptions {
-    strength: Some(Strength::Primary),
-    alternate_handling: None,
-    max_variable: None,
-    case_level: None,
-};
-
-pub(crate) const PREFERENCES: CollatorPreferences<'static> = CollatorPreferences {
-    locale: "",
-    collation_type: None,
-    case_first: None,
-    numeric_ordering: None,
-};
 
 /// Runs over no records.
 fn run_over_nothing<R: Read, W: Write>(
@@ -55,7 +41,7 @@ where
         alloc,
         records,
         &PREFERENCES,
-        &OPTIONS,
+        &PRIMARY,
         &mut reader,
         &mut writer,
     );
@@ -84,7 +70,7 @@ fn ok_run_with_seed(rt: HostRuntime) -> Result<(), Fail> {
         alloc,
         records,
         &PREFERENCES,
-        &OPTIONS,
+        &PRIMARY,
         7,
         &mut reader,
         &mut writer,

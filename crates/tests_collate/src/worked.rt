@@ -2,7 +2,7 @@
 //! writers that take few.
 
 use crate::failing::{FailingReader, FailingWriter, Failure};
-use crate::names::{LETTERS, PREFERENCES, PRIMARY};
+use crate::letters::{LETTERS, PREFERENCES, PRIMARY};
 use crate::reloads::{CH, joined};
 use assertions::assert_same;
 use collate_records::records::Records;
