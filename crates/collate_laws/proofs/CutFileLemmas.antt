@@ -1,6 +1,6 @@
 -- A file that is cut after the first byte past its most bytes is read as the whole file is.
-use Rattle.std.proofs.Common.{◌≡◌, ℕ, zero, suc, ◌+◌, ◌<◌, ◌≤◌, ◌↔◌, ◌==◌, Bool, true, false, cond, inl, inr, ⊎_elim, Option, Some, None, Result, Ok, Err, List, [], ◌∷◌, ◌++◌, length, take, drop, count_by, refl, sym, ap, subst, ◌∙◌, arith}
-use Rattle.std.specs.Prelude.{min, slice_get, slice_index_or}
+use Rattle.std.proofs.Common.{◌≡◌, ℕ, zero, suc, ◌+◌, ◌<◌, ◌≤◌, ◌↔◌, ◌==◌, Bool, true, false, cond, inl, inr, ⊎_elim, Option, Some, Result, Ok, Err, List, [], ◌∷◌, ◌++◌, length, take, drop, count_by, refl, sym, ap, subst, ◌∙◌, arith}
+use Rattle.std.specs.Prelude.{slice_get, slice_index_or}
 use Rattle.std.specs.List.{filter, list_any, onto_first, slice_split}
 use Rattle.std.specs.Option.{unwrap_or}
 use Rattle.std.proofs.lemmas.Bool.{cases_lt}
@@ -12,9 +12,9 @@ use Rattle.collate_lines.specs.declared.rule.Rule.TheVariants.{Grammar, V14}
 use Rattle.collate_lines.specs.declared.rule.RecordsError.{RecordsError}
 use Rattle.collate_lines.specs.declared.rule.RecordsError.TheVariants.{Fault, Memory}
 use Rattle.collate_lines.specs.Grammar.{record_of}
-use Rattle.collate_lines.specs.Lines.{PassesSize, line_at, lines_of, numbers_from, numbers_of, read_line, records_in, records_of}
+use Rattle.collate_lines.specs.Lines.{PassesSize, lines_of, numbers_from, read_line, records_in, records_of}
 use Rattle.collate_lines.specs.Record.{Record, nothing}
-use Rattle.collate_lines.specs.Repeats.{Repeats, is_second, record_at, says_something}
+use Rattle.collate_lines.specs.Repeats.{is_second, record_at, says_something}
 use Rattle.collate_rules.specs.Rules.{rank}
 use Rattle.collate_records.specs.Files.{Breaks, FileRecords, IsEarlier, IsFirstFaultWithin, IsReadWithin, OffendsIn}
 

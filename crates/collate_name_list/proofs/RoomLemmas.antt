@@ -1,6 +1,5 @@
 -- the empty slots dropped: the full ones with their new numbers stand for the same names, in the same orders
-use Rattle.std.proofs.Common.{◌≡◌, ℕ, ◌+◌, ◌<◌, List, [], ◌∷◌, ◌++◌, length, map, get_or, Option, Some, None, true, false, cond, ◌≤◌, lt-ltb, is_some, refl, sym, ap, ◌∙◌, subst, arith, append_assoc, Ordering}
-use Rattle.std.specs.Prelude.{◌==◌}
+use Rattle.std.proofs.Common.{◌≡◌, ℕ, ◌+◌, ◌<◌, List, [], ◌∷◌, ◌++◌, length, map, get_or, Option, Some, None, true, cond, lt-ltb, is_some, refl, sym, ap, ◌∙◌, subst, arith, append_assoc, Ordering}
 use Rattle.std.specs.List.{All, Contains, filter}
 use Rattle.std.specs.Ordering.{on}
 use Rattle.std.proofs.lemmas.List.{length-map, get_or-map, get_or_at, length_push}

@@ -1,5 +1,5 @@
 -- Texts that are read with a look at the next character: what was read, what is left, and which primaries come next.
-use Rattle.std.specs.Prelude.{◌≡◌, ℕ, ◌==◌, Bool, cond, false, true, List, ◌∷◌, ◌++◌, [], flat_map, Option, Some, None}
+use Rattle.std.specs.Prelude.{◌≡◌, ℕ, Bool, cond, false, true, List, ◌∷◌, ◌++◌, [], flat_map, Option, Some, None}
 use Rattle.icu_normalizer_core.specs.Iter.{Spells}
 use Rattle.icu_collator_core.specs.Acceptance.{CollationSource}
 use Rattle.icu_collator_core.specs.ElementLists.{unpacked}

@@ -1,11 +1,10 @@
 -- Characters at which the reading of a text may begin, whatever stands before them, and characters that have one element
 -- wherever they stand.
-use Rattle.std.specs.Prelude.{◌≡◌, ℕ, ◌*◌, ◌^◌, Bool, true, false, cond, get_or, ◌==◌, ◌&&◌, ◌||◌, ◌⊎◌, ◌≢◌, List, [], ◌∷◌, ◌++◌, None}
+use Rattle.std.specs.Prelude.{◌≡◌, ℕ, ◌*◌, ◌^◌, false, cond, get_or, ◌==◌, ◌&&◌, ◌⊎◌, ◌≢◌, List, [], ◌∷◌, None}
 use Rattle.std.specs.List.{AllByRecursion}
 use Rattle.std.specs.Ordering.{nat_cmp}
 use Rattle.std.specs.declared.cmp.Ordering.{Ordering}
 use Rattle.std.specs.declared.cmp.Ordering.TheVariants.{Equal}
-use lib.Utf8.{scalars}
 use Rattle.icu_normalizer_core.specs.Canonical.{Canonical}
 use Rattle.icu_collator_types.specs.declared.options.ResolvedCollatorOptions.{ResolvedCollatorOptions}
 use Rattle.icu_collator_types.specs.Options.{group_index, is_numeric, is_shifted}
@@ -15,7 +14,6 @@ use Rattle.icu_collator_core.specs.Defaults.{special_primary}
 use Rattle.icu_collator_core.specs.PlainWords.{IsReadAlone, IsUnprefixed}
 use Rattle.icu_collator_core.specs.Pools.{element_of}
 use Rattle.icu_collator_core.specs.Weights.{Weights}
-use Rattle.icu_collator.specs.NumbersInTexts.{is_digit}
 use Rattle.icu_collator.specs.Shifted.{is_variable}
 
 -- a boundary that decomposing leaves as it is

@@ -12,7 +12,7 @@ use Rattle.icu_collator_core.specs.Collation.{Collation}
 use Rattle.icu_collator_core.specs.FlatSteps.{IsNextPrimary, IsReadUpTo, IsSettled}
 use Rattle.icu_collator_core.specs.Pools.{element_of}
 use Rattle.icu_collator_core.specs.declared.flat.steps.FlatStep.{FlatStep}
-use Rattle.icu_collator_core.specs.declared.flat.steps.FlatStep.TheVariants.{Primary, End, Other}
+use Rattle.icu_collator_core.specs.declared.flat.steps.FlatStep.TheVariants.{Primary, End}
 use Rattle.icu_collator.specs.Collators.{source_collation}
 use Rattle.icu_collator.specs.LevelLists.{variable_end_of}
 use Rattle.icu_collator.specs.Levels.{levels_of_text, secondary_at, tertiary_at}

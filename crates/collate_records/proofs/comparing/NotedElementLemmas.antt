@@ -1,5 +1,5 @@
 -- Elements that are noted of the lines of a file, by prefix and text.
-use Rattle.std.proofs.Common.{◌≡◌, ℕ, ◌+◌, ◌<◌, Bool, true, false, cond, ◌&&◌, List, [], ◌∷◌, ◌++◌, length, take, get_or, Option, Some, None, map, refl, sym, ap, ◌∙◌, subst, Bor}
+use Rattle.std.proofs.Common.{◌≡◌, ℕ, ◌+◌, ◌<◌, Bool, true, false, cond, ◌&&◌, List, [], ◌∷◌, ◌++◌, length, take, get_or, Option, Some, None, map, refl, sym, ap, ◌∙◌, Bor}
 use Rattle.std.specs.Prelude.{bytes_eq, is_none}
 use Rattle.std.specs.BTreeMap.{get, is_at}
 use Rattle.std.specs.Cmp.{tied_then}
@@ -15,7 +15,7 @@ use Rattle.std.proofs.lemmas.Slice.Eq.{bytes_eq-Decides}
 use Rattle.icu_collator_types.specs.declared.elements.Element.{Element}
 use Rattle.collate_lines.specs.declared.record.Record.{Record as Line}
 use Rattle.collate_lines.specs.Record.{Record, Layer, root, tailoring, said}
-use Rattle.collate_rules.specs.Meaning.{elements_in, first_found, recorded_in}
+use Rattle.collate_rules.specs.Meaning.{elements_in, first_found}
 use Rattle.collate_rules.proofs.lookups.RuleLookupLemmas.{first_found-push}
 use Rattle.collate_records.specs.NotedFile.{HasElements, Key, Noted, elements_at, key_cmp, pointed}
 

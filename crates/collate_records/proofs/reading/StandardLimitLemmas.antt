@@ -1,8 +1,8 @@
 -- 150 code points and 1,000 lines never lack room in tables.
-use Rattle.std.proofs.Common.{◌≡◌, ℕ, ◌+◌, ◌*◌, ◌<◌, ◌≤◌, ◌⊎◌, ◌↔◌, inl, inr, ⊎_elim, Bool, true, false, cond, eqb, List, [], ◌∷◌, length, map, take, get_or, All, refl, sym, ap, ◌∙◌, arith, subst}
+use Rattle.std.proofs.Common.{◌≡◌, ℕ, ◌+◌, ◌*◌, ◌<◌, ◌≤◌, ◌⊎◌, ◌↔◌, inl, inr, ⊎_elim, Bool, true, false, cond, eqb, List, [], ◌∷◌, length, map, take, get_or, All, refl, sym, arith, subst}
 use Rattle.std.specs.Prelude.{count_by, flat_map, sum_by}
 use Rattle.std.specs.List.{filter, list_any}
-use Rattle.std.proofs.lemmas.Bool.{cases_Bool, cases_lt, eq-eqb}
+use Rattle.std.proofs.lemmas.Bool.{cases_lt, eq-eqb}
 use Rattle.std.proofs.lemmas.List.Elements.{All-from_get_or, All-get_or}
 use Rattle.std.proofs.lemmas.List.{get_or-take, length-take}
 use Rattle.std.proofs.lemmas.List.Sums.{length-filter, sum_by-cons, sum_by-le-sum_by}
@@ -13,7 +13,7 @@ use Rattle.collate_lines.specs.Record.{Record, nothing, class, mapping, compatib
 use Rattle.collate_lines.specs.Repeats.{record_at, says_something}
 use Rattle.collate_rules.specs.Accepted.{IsSaid}
 use Rattle.icu_normalizer_core.specs.Named.{narrow_block, wide_block}
-use Rattle.collate_rules.specs.Rules.{IsLong, IsOverLimit, blocks_in, canonical_room, different, element_room, is_beside, is_range, mapping_room, named, names_in}
+use Rattle.collate_rules.specs.Rules.{IsLong, IsOverLimit, blocks_in, canonical_room, different, element_room, is_beside, mapping_room, named, names_in}
 use Rattle.collate_rules.proofs.offenders.RoomLemmas.{FitTables, fit_room}
 use Rattle.collate_records.specs.StandardLimits.{PassesStandard}
 use Rattle.collate_records.proofs.maps.AcceptedAllMapsLemmas.{said_few}

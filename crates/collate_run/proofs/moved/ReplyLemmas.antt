@@ -1,11 +1,10 @@
 -- What replies to lines over one catalogue are replies over one whose records stand in another order.
-use Rattle.std.proofs.Common.{◌≡◌, ℕ, List, [], ◌∷◌, ◌++◌, inl, inr, refl, sym, ap, subst, ◌∙◌, ◌⊎◌, Result, Ok, Err}
+use Rattle.std.proofs.Common.{◌≡◌, ℕ, List, [], ◌∷◌, ◌++◌, inl, inr, refl, sym, ap, subst, ◌∙◌, Result, Ok, Err}
 use Rattle.std.specs.List.{Contains, filter, flat_map}
 use Rattle.std.specs.List.Sorted.{IsPermutation}
 use Rattle.std.specs.Prelude.{bytes_eq, not, Option}
 use Rattle.std.proofs.lemmas.List.Sorted.{IsPermutation-refl}
 use Rattle.collate_lines.specs.declared.limits.Limits.{Limits}
-use Rattle.collate_lines.specs.declared.rule.RecordFault.{RecordFault}
 use Rattle.collate_lines.specs.declared.rule.RecordsError.TheVariants.{Fault}
 use Rattle.collate_lines.specs.Lines.{lines_of, records_of}
 use Rattle.collate_records.specs.Files.{IsAcceptedWithin, RefusesWithin}
@@ -14,8 +13,8 @@ use Rattle.collate_records.proofs.reordering.AcceptedMovedLemmas.{records_moved}
 use Rattle.icu_collator_types.specs.declared.options.CollatorOptions.{CollatorOptions}
 use Rattle.icu_collator_types.specs.declared.options.CollatorPreferences.{CollatorPreferences}
 use Rattle.hex.specs.Hex.{encode_lower}
-use Rattle.collate_index.specs.Catalogue.{Catalogue, opened_by, reloaded, with_name, without_name}
-use Rattle.collate_run.specs.Replies.{Answers, AreReplies, Denies, Grants, LineCommand, Replied, add, remove, find, between, key, list, reload, unknown, nothing, command, command_of, ended, listing}
+use Rattle.collate_index.specs.Catalogue.{Catalogue, opened_by, reloaded}
+use Rattle.collate_run.specs.Replies.{Answers, AreReplies, Grants, LineCommand, Replied, add, remove, find, between, key, list, reload, unknown, nothing, command, command_of, ended, listing}
 use Rattle.collate_run.specs.Runs.{Does, Ran, input_limit, lines_read}
 use Rattle.collate_run.specs.declared.run.RunFault.{RunFault}
 use Rattle.collate_run.specs.declared.run.RunFault.TheVariants.{Memory, Read, Write, LineTooLong, InputTooLong, CutReload}

@@ -1,6 +1,5 @@
 -- Catalogues whose records stand in another order: names have the same keys, and stand in the same order.
 use Rattle.std.proofs.Common.{◌≡◌, ℕ, List, length, not, ◌&&◌, sym, ap, ◌∙◌, subst}
-use Rattle.std.specs.List.{filter}
 use Rattle.std.specs.List.Sorted.{IsPermutation}
 use Rattle.std.specs.Cmp.Lexicographic.{slice_cmp}
 use Rattle.std.specs.Ordering.{nat_cmp}

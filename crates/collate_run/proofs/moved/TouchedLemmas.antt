@@ -1,7 +1,7 @@
 -- Names that a reload touches, where the records before it stand in another order.
-use Rattle.std.proofs.Common.{◌≡◌, ℕ, List, [], ◌∷◌, inl, inr, sym, subst, ◌∙◌}
+use Rattle.std.proofs.Common.{ℕ, List, [], ◌∷◌, inl, inr, sym, subst, ◌∙◌}
 use Rattle.std.specs.List.{Contains}
-use Rattle.icu_normalizer_core.specs.Canonical.{Reaches, stands, steps}
+use Rattle.icu_normalizer_core.specs.Canonical.{Reaches}
 use Rattle.icu_normalizer_core.specs.Decoding.{utf8_chars}
 use Rattle.collate_lines.specs.Record.{Record}
 use Rattle.collate_rules.specs.Meaning.{step_of}

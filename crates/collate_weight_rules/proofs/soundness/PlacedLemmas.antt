@@ -1,5 +1,5 @@
 -- Elements with their lines, and the weights that lines up to one give.
-use Rattle.std.proofs.Common.{◌≡◌, ◌↔◌, ⊎_elim, ℕ, zero, suc, ◌+◌, ◌*◌, ◌^◌, ◌<◌, ◌≤◌, Bool, true, false, cond, leb, List, [], ◌∷◌, ◌++◌, length, get_or, map, take, Option, Some, None, MatchOption, refl, sym, ap, ◌∙◌, subst, arith, append-nil, append_assoc, IsTrue}
+use Rattle.std.proofs.Common.{◌≡◌, ◌↔◌, ⊎_elim, ℕ, zero, suc, ◌+◌, ◌*◌, ◌^◌, ◌<◌, ◌≤◌, Bool, true, false, cond, leb, List, [], ◌∷◌, ◌++◌, length, get_or, map, take, Option, Some, None, refl, sym, ap, ◌∙◌, subst, arith, append-nil, append_assoc, IsTrue}
 use Rattle.std.specs.Prelude.{filter}
 use Rattle.std.specs.List.{Contains, list_all}
 use Rattle.std.specs.List.Sorted.{IsPermutation}
@@ -18,7 +18,7 @@ use Rattle.collate_rules.specs.Indices.{TellsFirstIndex}
 use Rattle.collate_rules.proofs.given.GivenListLemmas.{apart_told, list_all_from, list_all_tells}
 use Rattle.collate_weight_rules.specs.declared.apart.ApartTest.{ApartTest}
 use Rattle.collate_weight_rules.specs.PlacedWeights.{HasPlaced, are_apart_to, are_weights_apart, placed_elements, weights_to}
-use Rattle.collate_weight_rules.proofs.soundness.WeightRuleApartLemmas.{AreAllApart, ApartBy, told_by}
+use Rattle.collate_weight_rules.proofs.soundness.WeightRuleApartLemmas.{ApartBy, told_by}
 
 -- ---- Elements with their lines
 

@@ -15,7 +15,7 @@ use Rattle.icu_collator_core.proofs.lookups.MatchLemmas.{scalars_front}
 use Rattle.icu_collator_core.proofs.lookups.PrefixLemmas.{scalars_back}
 use Rattle.icu_collator_core.proofs.readings.SamenessLemmas.{at_greatest_same}
 use Rattle.icu_collator_core.proofs.readings.ReadStepLemmas.{alike_self}
-use Rattle.icu_collator_core.specs.Boundaries.{IsBoundary, after}
+use Rattle.icu_collator_core.specs.Boundaries.{IsBoundary}
 
 module _ (canonical : Canonical) (weights : Weights) where
   recorded_none : (d : ℕ) (xs : List ℕ) → IsBoundary canonical weights d → 0 < length xs → scalars xs ≡ true

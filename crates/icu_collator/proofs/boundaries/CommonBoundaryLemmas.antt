@@ -1,5 +1,5 @@
 -- The last boundary that two texts have in common, while both are read from their beginnings.
-use Rattle.std.proofs.Common.{◌≡◌, ℕ, ◌+◌, ◌≤◌, List, [], ◌∷◌, Option, Some, inl, inr, refl, subst, arith}
+use Rattle.std.proofs.Common.{◌≡◌, ℕ, ◌+◌, ◌≤◌, List, [], Option, Some, inl, inr, refl, subst, arith}
 use Rattle.std.specs.Prelude.{◌≢◌}
 use Rattle.icu_normalizer_core.specs.Iter.{Spells}
 use Rattle.icu_normalizer_core.proofs.decomposed_lists.IterLemmas.{Spells-next}

@@ -1,10 +1,7 @@
 -- What tables tell of characters, as boundaries, as characters that stand apart, and as plain characters.
-use Rattle.std.proofs.Common.{◌≡◌, ℕ, ◌==◌, Bool, false, ◌&&◌, ◌||◌, List, [], ◌∷◌, ◌++◌, Option, Some, None, refl, ap, arith}
-use Rattle.std.specs.List.{Contains}
+use Rattle.std.proofs.Common.{◌≡◌, ℕ, ◌==◌, Bool, false, ◌&&◌, ◌||◌, List, ◌∷◌, None, ap, arith}
 use Rattle.std.proofs.lemmas.Bool.{and_right, eqb-true, false_from_ne_true, or_from}
-use Rattle.std.proofs.lemmas.List.Elements.{Contains-append_right}
 use Rattle.icu_normalizer_core.specs.Canonical.{Canonical, IsDecomposing}
-use Rattle.icu_collator_types.specs.declared.elements.Element.{Element}
 use Rattle.icu_collator_core.specs.Acceptance.{CollationSource}
 use Rattle.icu_collator_core.specs.ReadSources.{IsAloneAnywhere}
 use Rattle.icu_collator_core.specs.Weights.{Weights}

@@ -16,7 +16,6 @@ use Rattle.icu_collator_core.specs.TableSettings.{is_compressible_in, reordered_
 use Rattle.icu_collator_core.specs.WeightFaults.{IsSoundReordering}
 use Rattle.icu_collator_core.specs.declared.tables.CollationTables.{CollationTables}
 use Rattle.icu_collator_core.specs.declared.tables.reordering.CollationReordering.{CollationReordering}
-use Rattle.icu_collator_core.specs.declared.tables.special_primaries.CollationSpecialPrimaries.{CollationSpecialPrimaries}
 use Rattle.icu_collator.specs.KeyBytes.{primary_run, was_compressible}
 use Rattle.icu_collator.specs.KeyCodes.{IsRun}
 

@@ -19,7 +19,7 @@ use Rattle.icu_collator_core.specs.Weights.{Weights}
 use Rattle.icu_collator_core.specs.Defaults.{special_primary}
 use Rattle.icu_collator_core.specs.Numbers.{number_elements}
 use Rattle.icu_collator_core.specs.WholeNumbers.{IsWholeNumber}
-use Rattle.icu_collator_core.specs.Elements.{Placed, Reading, placed_behind, characters_of, digit_count, number_reading, reading, elements_within, elements_of_list}
+use Rattle.icu_collator_core.specs.Elements.{Placed, Reading, placed_behind, digit_count, number_reading, reading, elements_within, elements_of_list}
 use Rattle.icu_collator_core.proofs.numbers.NumberOrderLemmas.{equal_numbers}
 use Rattle.icu_collator.specs.Levels.{levels_of, elements_of_text, levels_of_text, primary_at}
 use Rattle.icu_collator.specs.Shifted.{counted}

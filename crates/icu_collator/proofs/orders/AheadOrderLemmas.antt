@@ -1,5 +1,5 @@
 -- How texts that are read with a look at the next character compare, by their primaries.
-use Rattle.std.proofs.Common.{◌≡◌, ℕ, true, List, [], ◌∷◌, ◌++◌, map, Option, Some, None, refl, sym, ◌∙◌, ap, append_assoc}
+use Rattle.std.proofs.Common.{◌≡◌, ℕ, List, [], ◌∷◌, ◌++◌, map, Option, refl, sym, ◌∙◌, ap, append_assoc}
 use Rattle.std.specs.Prelude.{◌≢◌, All}
 use Rattle.std.specs.Char.{IsScalar}
 use Rattle.std.specs.Ordering.{nat_cmp}
@@ -23,8 +23,7 @@ use Rattle.icu_collator.specs.Levels.{levels_of_text}
 use Rattle.icu_collator.specs.Order.{collation_order}
 use Rattle.icu_collator.specs.TextsRead.{numeric_by}
 use Rattle.icu_collator.specs.declared.compare.flat.ByPrimaries.TheVariants.{Decided, Same}
-use Rattle.icu_collator.specs.declared.compare.flat.Meeting.{Meeting}
-use Rattle.icu_collator.specs.declared.compare.flat.Meeting.TheVariants.{Alike, BothEnd, Parted, Stopped}
+use Rattle.icu_collator.specs.declared.compare.flat.Meeting.TheVariants.{Alike, BothEnd, Parted}
 use Rattle.icu_collator.proofs.boundaries.DecidingCharacterLemmas.{primaries_decide}
 use Rattle.icu_collator.proofs.boundaries.LevelFrontLemmas.{ranks_end, ranks_on}
 use Rattle.icu_collator.proofs.orders.CountedPrimaryLemmas.{counted_by_primaries}

@@ -1,14 +1,12 @@
 -- What stands before a digit, and doesn't end in one, is read without what stands from there on.
-use Rattle.std.proofs.Common.{◌≡◌, ℕ, zero, suc, ◌<◌, ◌≤◌, ◌==◌, Bool, true, false, cond, ◌&&◌, ltb, List, [], ◌∷◌, ◌++◌, length, take, drop, refl, sym, ap, ◌∙◌, inl, inr, arith, append_assoc, length-append, Option, Some, None}
+use Rattle.std.proofs.Common.{◌≡◌, ℕ, zero, suc, ◌<◌, ◌≤◌, ◌==◌, true, false, cond, ◌&&◌, ltb, List, [], ◌∷◌, ◌++◌, length, take, drop, refl, ap, ◌∙◌, arith, length-append, Option, Some, None}
 use Rattle.std.specs.List.{list_all}
 use Rattle.std.specs.Option.{unwrap_or, is_some}
-use Rattle.std.proofs.lemmas.Bool.{cond_both, cases_lt, eq-eqb, false_from_ne_true, or_right, or_left}
-use Rattle.std.proofs.lemmas.List.{take-append-le, map-append}
-use Rattle.icu_normalizer_core.specs.Canonical.{Canonical}
+use Rattle.std.proofs.lemmas.Bool.{cond_both, eq-eqb, false_from_ne_true, or_right, or_left}
+use Rattle.std.proofs.lemmas.List.{take-append-le}
 use Rattle.icu_collator_core.specs.Collation.{Collation}
 use Rattle.icu_collator_core.specs.Weights.{Weights}
-use Rattle.icu_collator_core.specs.Elements.{Placed, Joining, characters_of, at_greatest, recorded_length, match_length, joining}
-use Rattle.icu_collator_core.proofs.readings.AlikeLemmas.{two_ways}
+use Rattle.icu_collator_core.specs.Elements.{Placed, Joining, characters_of, recorded_length, match_length, joining}
 use Rattle.icu_collator_core.proofs.readings.SplitAtBoundaryLemmas.{greatest_below, greatest_same, none_where}
 use Rattle.icu_collator.specs.NumbersInTexts.{AreDigitsAlone, is_digit, holds_digit, ends_with_digit}
 

@@ -1,8 +1,6 @@
 -- What accepted tables set keeps the rule on settings, where they reorder whole leads.
-use Rattle.std.proofs.Common.{◌≡◌, ℕ, ◌+◌, ◌*◌, ◌/◌, ◌%◌, ◌^◌, true, false, List, [], ◌∷◌, length, Option, Some, None, sym, ◌∙◌, ap, arith}
-use Rattle.std.specs.Prelude.{◌==◌, ◌&&◌, leb, IfSome}
-use Rattle.std.specs.List.{list_all}
-use Rattle.std.proofs.lemmas.Bool.{and_from, and_parts}
+use Rattle.std.proofs.Common.{◌≡◌, ℕ, ◌+◌, ◌*◌, ◌/◌, ◌%◌, ◌^◌, true, false, Option, Some, None, sym, ◌∙◌, ap, arith}
+use Rattle.std.specs.Prelude.{IfSome}
 use Rattle.icu_normalizer_core.specs.Canonical.{Canonical}
 use Rattle.icu_collator_core.specs.declared.tables.CollationTables.{CollationTables}
 use Rattle.icu_collator_core.specs.declared.tables.reordering.CollationReordering.{CollationReordering}
@@ -10,7 +8,7 @@ use Rattle.icu_collator_core.specs.declared.tables.special_primaries.CollationSp
 use Rattle.icu_collator_core.specs.Acceptance.{IsAccepted}
 use Rattle.icu_collator_core.specs.Collation.{with_lead}
 use Rattle.icu_collator_core.specs.TableMeaning.{collation_of}
-use Rattle.icu_collator_core.specs.TableSettings.{groups_of, reordered_in}
+use Rattle.icu_collator_core.specs.TableSettings.{reordered_in}
 use Rattle.icu_collator_core.specs.WeightFaults.{IsSoundReordering}
 use Rattle.icu_collator_core.specs.WeightRules.{is_letter_lead}
 use Rattle.icu_collator.specs.Settings.{AreSoundSettings}

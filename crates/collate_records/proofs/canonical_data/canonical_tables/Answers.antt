@@ -1,4 +1,4 @@
-use Rattle.std.proofs.Common.{◌≡◌, List, map, subst, arith, ⊎_elim}
+use Rattle.std.proofs.Common.{map, subst, arith, ⊎_elim}
 use Rattle.icu_normalizer_core.specs.CanonicalMaps.{AreMeaning, CanonicalMaps}
 use Rattle.icu_normalizer_core.specs.CompatibilityMaps.{maps_in}
 use Rattle.icu_normalizer_core.specs.CanonicalMeaning.{meaning}

@@ -1,4 +1,4 @@
-use Rattle.std.proofs.Common.{◌≡◌, List, map, subst, sym}
+use Rattle.std.proofs.Common.{List, map, subst, sym}
 use Rattle.icu_normalizer_core.specs.CanonicalFaults.{IsAccepted as IsAcceptedCanonical}
 use Rattle.icu_normalizer_core.specs.CanonicalMaps.{AreMeaning}
 use Rattle.icu_normalizer_core.specs.CanonicalMeaning.{lists_of, meaning}
@@ -6,7 +6,6 @@ use Rattle.icu_normalizer_core.specs.CompatibilityMaps.{AreAcceptedOver}
 use Rattle.icu_normalizer_core.specs.CompatibilityMeaning.{nfkd_lists}
 use Rattle.icu_normalizer_core.specs.declared.canonical.tables.CanonicalTables.{CanonicalTables}
 use Rattle.icu_normalizer_core.specs.declared.compatibility.tables.NfkdTables.{NfkdTables}
-use Rattle.icu_collator_core.specs.declared.tables.CollationTables.{CollationTables}
 use Rattle.collate_lines.specs.Record.{Record, said}
 use Rattle.collate_rules.specs.Accepted.{AreAccepted}
 use Rattle.collate_compile.specs.Compiled.{AreCompiledFrom, HaveTrieType}

@@ -1,4 +1,4 @@
-use Rattle.std.proofs.Common.{ℕ, map, subst, sym, rules}
+use Rattle.std.proofs.Common.{ℕ, subst, sym, rules}
 use Rattle.collate_rules.specs.Rules.{rank}
 use Rattle.collate_records.specs.Files.{RefusesWithin}
 use Rattle.collate_records.specs.Phases.{KeepsBelow}

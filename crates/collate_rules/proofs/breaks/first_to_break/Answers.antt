@@ -1,4 +1,4 @@
-use Rattle.std.proofs.Common.{ℕ, ◌+◌, ◌-◌, ◌/◌, take, sym, ◌∙◌, ap, arith}
+use Rattle.std.proofs.Common.{ℕ, take, sym, ◌∙◌, ap, arith}
 use Rattle.collate_rules.proofs.records.BreakLemmas.{none_up_to, part_tested, whole_unbroken}
 use Rattle.collate_rules.proofs.breaks.first_to_break.Goals as goal
 

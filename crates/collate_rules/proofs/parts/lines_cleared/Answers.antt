@@ -1,4 +1,4 @@
-use Rattle.std.proofs.Common.{◌+◌, ◌-◌, ◌/◌, ℕ, length, take, refl, sym, ap, arith, take_all}
+use Rattle.std.proofs.Common.{ℕ, length, take, refl, sym, ap, arith, take_all}
 use Rattle.std.specs.Fn.{FnReturnsAt}
 use Rattle.collate_rules.specs.declared.canonical_parts.CanonicalParts.{CanonicalParts}
 use Rattle.collate_rules.specs.CanonicalParts.{IsShort}

@@ -1,4 +1,4 @@
-use Rattle.std.proofs.Common.{◌≡◌, ℕ, List, ◌++◌, length, map, ap, ap₂, sym, ◌∙◌, arith, take_all}
+use Rattle.std.proofs.Common.{ℕ, List, ◌++◌, map, ap, ap₂, sym, ◌∙◌, arith, take_all}
 use Rattle.std.proofs.lemmas.List.{length-map}
 use Rattle.icu_collator_types.specs.declared.elements.Element.{Element}
 use Rattle.collate_lines.specs.Record.{Record, said}

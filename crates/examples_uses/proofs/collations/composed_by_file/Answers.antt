@@ -1,4 +1,4 @@
-use Rattle.std.proofs.Common.{◌≡◌, List, ap, ◌∙◌, string_bytes}
+use Rattle.std.proofs.Common.{◌≡◌, ap, ◌∙◌, string_bytes}
 use Rattle.icu_normalizer.specs.TextForms.{composed_text}
 use Rattle.collate_lines.specs.Lines.{records_of}
 use Rattle.collate_records.specs.Files.{FileRecords, IsAccepted}

@@ -1,4 +1,4 @@
-use Rattle.std.proofs.Common.{List, subst}
+use Rattle.std.proofs.Common.{subst}
 use Rattle.collate_lines.specs.Lines.{records_of}
 use Rattle.collate_records.specs.Files.{FileRecords, IsAccepted, IsReadFrom}
 use Rattle.collate_laws.specs.OverRecords.{IsCollatorOf}

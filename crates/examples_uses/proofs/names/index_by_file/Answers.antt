@@ -1,4 +1,4 @@
-use Rattle.std.proofs.Common.{◌≡◌, List, ap, ◌∙◌}
+use Rattle.std.proofs.Common.{◌≡◌, ap, ◌∙◌}
 use Rattle.collate_lines.specs.Limits.{standard}
 use Rattle.collate_records.specs.Files.{FileRecords, IsAccepted}
 use Rattle.collate_index.specs.Catalogue.{opened, opened_by}

@@ -1,4 +1,4 @@
-use Rattle.std.proofs.Common.{ℕ, List, sym, subst}
+use Rattle.std.proofs.Common.{sym, subst}
 use Rattle.collate_index.specs.Catalogue.{Catalogue, meaning_in}
 use Rattle.collate_index.specs.Keys.{IsKeyOf}
 use Rattle.collate_index.specs.Index.{catalogue_of}

@@ -1,4 +1,4 @@
-use Rattle.std.proofs.Common.{◌≡◌, ℕ, ◌<◌, ◌≤◌, ◌^◌, length, true, false, arith, sym, ◌∙◌, subst}
+use Rattle.std.proofs.Common.{◌≡◌, ℕ, ◌<◌, ◌^◌, length, true, false, arith, sym, ◌∙◌, subst}
 use Rattle.collate_lists.specs.Search.{IsRankOf}
 use Rattle.collate_lists.proofs.NameSearchLemmas.{equal_part}
 use Rattle.collate_name_list.specs.StoredNames.{sorted}

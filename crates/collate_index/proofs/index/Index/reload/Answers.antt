@@ -1,11 +1,10 @@
-use Rattle.std.proofs.Common.{◌≡◌, ℕ, List, ap, ◌∙◌, subst, sym}
-use Rattle.std.specs.List.{All}
+use Rattle.std.proofs.Common.{◌≡◌, ℕ, List, ap, ◌∙◌, subst}
 use Rattle.std.proofs.lemmas.List.Elements.{All-same}
 use Rattle.collate_lines.specs.declared.limits.Limits.{Limits}
 use Rattle.collate_lines.specs.Lines.{records_of}
 use Rattle.collate_lines.specs.Record.{Record}
 use Rattle.collate_records.specs.Files.{FileRecords, IsAcceptedWithin}
-use Rattle.collate_name_list.specs.StoredNames.{StoredName, names_of, rekeyed}
+use Rattle.collate_name_list.specs.StoredNames.{names_of, rekeyed}
 use Rattle.collate_index.specs.Catalogue.{Catalogue, meaning_in, reloaded}
 use Rattle.collate_index.specs.Index.{catalogue_of}
 use Rattle.collate_index.specs.Keys.{IsKeyed, catalogue}

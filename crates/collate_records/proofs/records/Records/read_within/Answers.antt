@@ -1,4 +1,4 @@
-use Rattle.std.proofs.Common.{◌≡◌, ◌≤◌, map, List, subst, sym, ap, ◌∙◌}
+use Rattle.std.proofs.Common.{◌≤◌, map, List, subst, sym, ap, ◌∙◌}
 use Rattle.collate_lines.specs.declared.record.Record.{Record as Line}
 use Rattle.collate_records.specs.Maps.{maps_of}
 use Rattle.collate_lines.specs.Record.{Record, said}

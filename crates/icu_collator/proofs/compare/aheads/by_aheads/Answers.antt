@@ -1,7 +1,6 @@
-use Rattle.std.proofs.Common.{refl, subst, [], Option, ℕ}
+use Rattle.std.proofs.Common.{refl, subst, []}
 use Rattle.icu_collator.specs.FlatOrders.{IsMeeting}
 use Rattle.icu_collator.specs.declared.compare.flat.Meeting.{Meeting}
-use Rattle.icu_collator.specs.declared.compare.flat.Meeting.TheVariants.{Alike, BothEnd, Parted}
 use Rattle.icu_collator.proofs.orders.AheadLemmas.{nothing_met}
 use Rattle.icu_collator.proofs.orders.AheadOrderLemmas.{alike_on, both_out, parting_decides}
 use Rattle.icu_collator.proofs.orders.OrderByFlatLemmas.{alike_left, alike_right}

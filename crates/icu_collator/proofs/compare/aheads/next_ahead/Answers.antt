@@ -1,4 +1,4 @@
-use Rattle.std.proofs.Common.{◌≡◌, ◌∙◌, ◌∷◌, ◌++◌, [], Bool, List, Option, Some, None, ℕ, false, subst, sym, true}
+use Rattle.std.proofs.Common.{◌≡◌, ◌∙◌, ◌∷◌, ◌++◌, [], Option, Some, ℕ, false, subst, sym, true}
 use Rattle.std.specs.Prelude.{MatchOption}
 use Rattle.icu_collator_core.specs.declared.flat.primaries.NextPrimaries.{NextPrimaries}
 use Rattle.icu_collator.specs.Aheads.{HasPrimary, IsLeft, IsMetAhead}

@@ -1,4 +1,4 @@
-use Rattle.std.proofs.Common.{None, Option, Some, ap, subst, sym, ◌∙◌, ◌++◌, List, ℕ}
+use Rattle.std.proofs.Common.{None, Some, ap, subst, sym, ◌∙◌, ◌++◌, List, ℕ}
 use Rattle.std.proofs.lemmas.List.Elements.{filter_map-append}
 use Rattle.icu_collator_core.specs.FlatSteps.{primaries_in, primary_in}
 use Rattle.icu_collator.specs.Aheads.{IsReadAhead}

@@ -1,4 +1,4 @@
-use Rattle.std.proofs.Common.{◌≡◌, [], None, Option, Some, rules, subst, ℕ}
+use Rattle.std.proofs.Common.{◌≡◌, [], Option, Some, rules, subst, ℕ}
 use Rattle.std.specs.Prelude.{MatchOption}
 use Rattle.icu_normalizer_core.specs.Canonical.{IsDecomposing}
 use Rattle.icu_collator_core.specs.ReadSources.{canonical_by}

@@ -1,4 +1,4 @@
-use Rattle.std.proofs.Common.{◌≡◌, ◌≤◌, ℕ, arith, rules, subst, sym}
+use Rattle.std.proofs.Common.{◌≡◌, ℕ, arith, subst}
 use Rattle.std.proofs.lemmas.Bool.Decides.{nat_tests}
 use Rattle.icu_collator.specs.FlatOrders.{AreAlikeSoFar}
 use Rattle.icu_collator.proofs.compare.common.pass_common.Goals as goal

@@ -1,4 +1,4 @@
-use Rattle.std.proofs.Common.{◌≡◌, ◌≤◌, ℕ, List}
+use Rattle.std.proofs.Common.{◌≤◌, ℕ, List}
 use Rattle.std.specs.Iterator.{IsFinite, size}
 use Rattle.icu_collator.specs.FlatOrders.{AreAlikeSoFar}
 use Rattle.icu_collator.proofs.compare.common.pass_common.Given as goal

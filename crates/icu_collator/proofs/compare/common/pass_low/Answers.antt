@@ -1,7 +1,7 @@
-use Rattle.std.proofs.Common.{◌≡◌, ◌<◌, ◌≤◌, ◌==◌, ◌∙◌, ℕ, false, Option, Some, ap, arith, rules, subst, sym}
+use Rattle.std.proofs.Common.{◌≡◌, ◌<◌, ◌==◌, ◌∙◌, ℕ, false, Option, Some, ap, arith, subst, sym}
 use Rattle.std.proofs.lemmas.Bool.Decides.{nat_tests}
 use Rattle.std.specs.Prelude.{OnSome}
-use Rattle.std.specs.Iterator.{IsFinite, IsNearerEnd}
+use Rattle.std.specs.Iterator.{IsNearerEnd}
 use Rattle.icu_collator.proofs.orders.OrderByFlatLemmas.{pass_alike}
 use Rattle.icu_collator.proofs.compare.common.pass_low.Goals as goal
 

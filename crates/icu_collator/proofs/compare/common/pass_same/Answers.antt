@@ -1,4 +1,4 @@
-use Rattle.std.proofs.Common.{◌≡◌, ℕ, Option, Some, rules, subst, sym}
+use Rattle.std.proofs.Common.{◌≡◌, ℕ, Some, rules, subst, sym}
 use Rattle.icu_collator.proofs.orders.OrderByFlatLemmas.{pass_alike}
 use Rattle.icu_collator.proofs.compare.common.pass_same.Goals as goal
 

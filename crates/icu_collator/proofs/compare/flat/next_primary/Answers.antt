@@ -1,4 +1,4 @@
-use Rattle.std.proofs.Common.{refl, ◌≡◌, ◌≤◌, ◌∙◌, ℕ, false, true, List, arith, rules, sym}
+use Rattle.std.proofs.Common.{refl, ◌≡◌, ◌∙◌, false, true, arith, rules, sym}
 use Rattle.icu_normalizer_core.specs.Canonical.{IsDecomposing}
 use Rattle.icu_collator_core.specs.ReadSources.{canonical_by}
 use Rattle.icu_collator.specs.FlatOrders.{does_count}

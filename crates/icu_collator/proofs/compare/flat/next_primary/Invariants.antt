@@ -1,4 +1,4 @@
-use Rattle.std.proofs.Common.{◌≡◌, ◌≤◌, ℕ, List}
+use Rattle.std.proofs.Common.{◌≤◌, ℕ, List}
 use Rattle.std.specs.Iterator.{size}
 use Rattle.icu_collator_core.specs.FlatSteps.{IsReadUpTo}
 use Rattle.icu_collator.proofs.orders.OrderByFlatLemmas.{IsReadUncounted}

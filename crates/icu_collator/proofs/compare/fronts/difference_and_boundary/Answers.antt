@@ -1,4 +1,4 @@
-use Rattle.std.proofs.Common.{◌≡◌, ◌⊎◌, ⊎_elim, arith, subst, sym}
+use Rattle.std.proofs.Common.{◌⊎◌, ⊎_elim, arith, subst, sym}
 use Rattle.std.specs.Iterator.{IsFinite}
 use Rattle.icu_normalizer_core.specs.Iter.{Spells}
 use Rattle.icu_collator.specs.CommonBoundaries.{BeginAt}

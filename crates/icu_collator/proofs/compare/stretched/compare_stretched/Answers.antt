@@ -1,4 +1,4 @@
-use Rattle.std.proofs.Common.{◌≡◌, List, ℕ, Option, None, Some, subst, sym}
+use Rattle.std.proofs.Common.{List, ℕ, Option, None, Some, subst, sym}
 use Rattle.std.specs.Prelude.{IfSome}
 use Rattle.std.proofs.lemmas.Bool.Decides.{Decides-eqb}
 use Rattle.icu_collator.specs.Collators.{source_collation}

@@ -1,4 +1,4 @@
-use Rattle.std.proofs.Common.{◌≡◌, ◌∙◌, ◌++◌, ◌∷◌, [], List, ℕ, ap, arith, refl, sym}
+use Rattle.std.proofs.Common.{◌∙◌, ◌++◌, ◌∷◌, [], List, ℕ, ap, arith, refl, sym}
 use Rattle.std.proofs.lemmas.List.{take_all}
 use Rattle.icu_collator.specs.FlatOrders.{counted_primaries}
 use Rattle.icu_collator.proofs.orders.CountedPrimaryLemmas.{counted_more, uncounted_more}

@@ -1,4 +1,4 @@
-use Rattle.std.proofs.Common.{◌≡◌, [], ℕ, Option, arith, refl, rules, subst, sym}
+use Rattle.std.proofs.Common.{[], ℕ, Option, arith, refl, rules, subst, sym}
 use Rattle.icu_normalizer_core.specs.Canonical.{IsDecomposing}
 use Rattle.icu_collator_core.specs.ReadSources.{canonical_by}
 use Rattle.icu_collator_core.specs.Stretched.{EndsApart}
@@ -6,7 +6,7 @@ use Rattle.icu_collator_core.proofs.readings.StretchedLemmas.{unread_stretched}
 use Rattle.icu_collator.specs.FlatOrders.{IsMeeting}
 use Rattle.icu_collator.specs.StretchedOrders.{met_primaries}
 use Rattle.icu_collator.specs.declared.compare.flat.Meeting.{Meeting}
-use Rattle.icu_collator.specs.declared.compare.flat.Meeting.TheVariants.{Alike, BothEnd, Parted}
+use Rattle.icu_collator.specs.declared.compare.flat.Meeting.TheVariants.{BothEnd, Parted}
 use Rattle.icu_collator.proofs.boundaries.CommonFrontLemmas.{rest_scalars}
 use Rattle.icu_collator.proofs.orders.OrderByFlatLemmas.{alike_left, alike_right}
 use Rattle.icu_collator.proofs.orders.StretchedOrderLemmas.{met_alike, run}

@@ -1,4 +1,4 @@
-use Rattle.std.proofs.Common.{◌∙◌, arith, sym}
+use Rattle.std.proofs.Common.{◌∙◌, sym}
 use Rattle.icu_collator.proofs.SurrogateLemmas.{one_behind, two_behind, two_long}
 use Rattle.icu_collator.proofs.encodings.utf16.any_char.Goals as goal
 
