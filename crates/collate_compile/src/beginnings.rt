@@ -6,7 +6,7 @@ ghost use Rattle.std.specs.List.{list_any};
 ghost use Rattle.std.specs.Ordering.{nat_cmp};
 ghost use Rattle.collate_lines.specs.Record.{layer_of, said};
 ghost use Rattle.collate_rules.specs.Accepted.{AreAccepted};
-ghost use Rattle.collate_compile.specs.Beginnings.{AreAsked, AreBeginnings, AreFew, begun_by, first_of, is_begun, with_character};
+ghost use Rattle.collate_compile.specs.Beginnings.{AreAsked, AreBeginnings, AreFew, first_of, is_begun, with_character};
 ghost use Rattle.collate_compile.specs.LineSayings.{begins_line, begins_tailored_line, is_rooted, is_tailored};
 ghost use Rattle.collate_compile.specs.NotedLines.{said_by};
 

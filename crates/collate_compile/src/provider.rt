@@ -1,6 +1,6 @@
 //! A provider of the tables of one records file.
 
-ghost use Rattle.std.specs.Prelude.{◌≡◌, IfOk, Some, None, Ok, Err};
+ghost use Rattle.std.specs.Prelude.{◌≡◌, Some, None, Ok, Err};
 ghost use Rattle.icu_normalizer_core.specs.declared.provider.error.DataError.TheVariants.{Missing};
 ghost use Rattle.icu_normalizer_core.specs.declared.provider.error.TableName.TheVariants.{Uts46, Tailoring, Reordering};
 

@@ -1,6 +1,6 @@
 //! The settings of compiled tables.
 
-ghost use Rattle.std.specs.Prelude.{◌≡◌, ◌+◌, ◌*◌, ◌≤◌, cond, map};
+ghost use Rattle.std.specs.Prelude.{◌≡◌, ◌+◌, cond, map};
 ghost use Rattle.icu_collator_core.specs.TableSettings.{has_bit};
 ghost use Rattle.collate_lines.specs.Record.{said};
 ghost use Rattle.collate_compile.specs.Compiled.{AreSettingsOf};

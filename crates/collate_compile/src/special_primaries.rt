@@ -1,6 +1,6 @@
 //! The special primaries of compiled tables: where groups end, compressible leads, and the lead of numbers.
 
-ghost use Rattle.std.specs.Prelude.{◌≡◌, ℕ, ◌+◌, ◌*◌, ◌<◌, ◌^◌, map, IfOk};
+ghost use Rattle.std.specs.Prelude.{◌≡◌, ℕ, ◌+◌, ◌*◌, ◌<◌, map, IfOk};
 ghost use Rattle.icu_collator_core.specs.TableSettings.{has_bit};
 ghost use Rattle.collate_lines.specs.Record.{said};
 ghost use Rattle.collate_rules.specs.KeptSettings.{AreSoundlySet};

@@ -1,20 +1,17 @@
 //! An index: names in collation order, found by binary search over their stored keys.
 
-ghost use Rattle.std.specs.Prelude.{◌≡◌, ℕ, ◌*◌, ◌^◌, ◌+◌, ◌<◌, ◌≤◌, ◌==◌, true, false, List, All, length, Err, IfErr, IfOk, OnOk, OnErr, slice_get, slice_range};
+ghost use Rattle.std.specs.Prelude.{◌≡◌, ℕ, ◌*◌, ◌^◌, ◌<◌, ◌≤◌, ◌==◌, true, false, List, All, length, Err, IfErr, IfOk, OnOk, OnErr, slice_get, slice_range};
 ghost use Rattle.std.specs.Char.{IsScalar};
 ghost use Rattle.std.specs.List.{Contains};
 ghost use Rattle.std.specs.Option.{option_copied};
 ghost use Rattle.icu_collator.specs.CollatorAnswers.{key_by, order_by};
 ghost use Rattle.icu_collator.specs.KeyBytes.{key_of_text};
 ghost use Rattle.icu_collator.specs.Order.{collation_order};
-ghost use Rattle.collate_laws.specs.OverRecords.{IsCollatorOf};
 ghost use Rattle.collate_lines.specs.Lines.{records_of};
-ghost use Rattle.collate_name_list.specs.StoredNames.{names_of};
 ghost use Rattle.collate_records.specs.Files.{IsAcceptedWithin};
 ghost use Rattle.collate_rules.specs.Meaning.{collation_of};
 ghost use Rattle.collate_lists.specs.Names.{equal_names, names_between};
-ghost use Rattle.collate_lists.specs.Search.{IsRankOf};
-ghost use Rattle.collate_index.specs.Catalogue.{AreDistinct, meaning_in, opened, options_in, order_of, preferences_of, reloaded, sorted_names, with_name, without_name};
+ghost use Rattle.collate_index.specs.Catalogue.{AreDistinct, meaning_in, opened, options_in, order_of, reloaded, sorted_names, with_name, without_name};
 ghost use Rattle.collate_index.specs.Keys.{IsKeyOf};
 ghost use Rattle.collate_index.specs.Reloads.{AreKeysMade, IsRefused};
 

@@ -1,13 +1,13 @@
 //! How full lists begin, and how long they are, as far as the rule on them asks.
 
-ghost use Rattle.std.specs.Prelude.{◌≡◌, ◌≢◌, ◌==◌, ◌+◌, ◌-◌, ◌≤◌, ℕ, ◌++◌, ◌∷◌, List, [], Some, cond, flat_map, length, map, reverse, sum_by, IfOk, OnOk};
+ghost use Rattle.std.specs.Prelude.{◌≡◌, ◌≢◌, ◌==◌, ◌+◌, ◌-◌, ◌≤◌, ℕ, ◌++◌, ◌∷◌, List, [], Some, cond, flat_map, length, map, reverse, IfOk, OnOk};
 ghost use Rattle.std.specs.Option.{ForSome};
 ghost use Rattle.std.specs.BTreeMap.{get};
 ghost use Rattle.std.specs.Ordering.{nat_cmp};
 ghost use Rattle.icu_normalizer_core.specs.StepOrder.{AreInOrder};
 ghost use Rattle.collate_rules.specs.Lists.{IsFront};
 ghost use Rattle.collate_rules.specs.Meaning.{expanded};
-ghost use Rattle.collate_mapping_rules.specs.Fronts.{AreFronts, left_ahead, looks_ahead};
+ghost use Rattle.collate_mapping_rules.specs.Fronts.{AreFronts};
 ghost use Rattle.collate_mapping_rules.specs.AheadLists.{at_limit};
 
 use collate_rules::full_list::Front;

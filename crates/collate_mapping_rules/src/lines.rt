@@ -1,9 +1,8 @@
 //! The rules that look at one line: classes from 1 to 254 (C3), nothing against what is built in (C8), and no jamo or
 //! syllable in a mapping (C9).
 
-ghost use Rattle.std.specs.Prelude.{◌≡◌, ℕ, ◌↔◌, ◌∷◌, ◌++◌, ◌||◌, Option, map, true, IsTrue, MatchOption};
+ghost use Rattle.std.specs.Prelude.{◌≡◌, ◌↔◌, ◌∷◌, ◌||◌, Option, map, IsTrue, MatchOption};
 ghost use Rattle.std.specs.Option.{option_to_list};
-ghost use Rattle.std.specs.List.{list_any};
 ghost use Rattle.icu_normalizer_core.specs.BuiltIn.{is_jamo, is_syllable};
 ghost use Rattle.collate_lines.specs.Record.{said, mapping, compatibility};
 ghost use Rattle.collate_rules.specs.Rules.{IsBadClass, Contradicts, MapsHangul, has_hangul, is_built_in_record};

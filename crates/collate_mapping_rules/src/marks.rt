@@ -1,6 +1,6 @@
 //! The rule that a mapping stands on a starter that has no other (C1).
 
-ghost use Rattle.std.specs.Prelude.{All, ◌≡◌, ℕ, ◌↔◌, map, true, IsTrue, IfOk, MatchOption};
+ghost use Rattle.std.specs.Prelude.{All, ◌↔◌, map, true, IsTrue, IfOk, MatchOption};
 ghost use Rattle.collate_lines.specs.Record.{said};
 ghost use Rattle.collate_rules.specs.CanonicalParts.{in_full, IsShort};
 ghost use Rattle.collate_rules.specs.Rules.{IsMappedMark, MapsMark};

@@ -1,7 +1,7 @@
 //! The rules on composed pairs: no two lines compose the same two characters (C5), and the second of the two is from
 //! U+0300 on, and no vowel or final consonant of Hangul (C6).
 
-ghost use Rattle.std.specs.Prelude.{◌≡◌, ◌<◌, ◌⊎◌, ◌↔◌, ◌∷◌, ◌++◌, [], List, map, true, IsTrue, IfOk, OnOk, MatchOption};
+ghost use Rattle.std.specs.Prelude.{◌≡◌, ◌<◌, ◌⊎◌, ◌↔◌, ◌∷◌, ◌++◌, [], List, map, IsTrue, IfOk, OnOk, MatchOption};
 ghost use Rattle.std.specs.List.{list_any};
 ghost use Rattle.icu_normalizer_core.specs.BuiltIn.{is_within};
 ghost use Rattle.collate_lines.specs.Record.{Record as PlainRecord, said};

@@ -1,6 +1,6 @@
 //! The rule that texts and prefixes equal their decomposed lists (V7).
 
-ghost use Rattle.std.specs.Prelude.{◌≡◌, ◌==◌, ◌&&◌, ◌||◌, ℕ, List, [], ◌∷◌, ltb, false, map, IfOk, MatchOption};
+ghost use Rattle.std.specs.Prelude.{◌≡◌, ◌&&◌, ◌||◌, ℕ, List, ltb, false, map, IfOk, MatchOption};
 ghost use Rattle.std.specs.List.{list_any};
 ghost use Rattle.icu_normalizer_core.specs.Canonical.{decomposed};
 ghost use Rattle.collate_lines.specs.Record.{Record as PlainRecord, said};

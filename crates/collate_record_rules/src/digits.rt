@@ -1,6 +1,6 @@
 //! The rules on what has one lone record: digits (V11), and with `dotabove on` the marks U+0300 to U+0307 (V15).
 
-ghost use Rattle.std.specs.Prelude.{◌≡◌, ◌==◌, ◌&&◌, ◌||◌, not, List, [], ◌∷◌, false, map, is_some, IfOk, MatchOption};
+ghost use Rattle.std.specs.Prelude.{◌≡◌, ◌==◌, ◌&&◌, ◌||◌, not, false, map, is_some, IfOk, MatchOption};
 ghost use Rattle.std.specs.List.{list_any};
 ghost use Rattle.icu_collator_core.specs.ContextRules.{is_recorded_in, may_be_digit};
 ghost use Rattle.collate_lines.specs.Record.{said};

@@ -1,7 +1,7 @@
 //! The rules that look at one record, with what others replace: what jamo have (V12), and that FFFD, FFFE and FFFF stand
 //! nowhere (V13).
 
-ghost use Rattle.std.specs.Prelude.{◌≡◌, ◌==◌, ◌%◌, ◌^◌, ◌&&◌, ◌||◌, List, [], ◌∷◌, map, IfOk, MatchOption};
+ghost use Rattle.std.specs.Prelude.{◌≡◌, ◌==◌, ◌%◌, ◌&&◌, ◌||◌, [], ◌∷◌, map, IfOk, MatchOption};
 ghost use Rattle.std.specs.List.{list_any};
 ghost use Rattle.icu_normalizer_core.specs.BuiltIn.{is_jamo, is_within};
 ghost use Rattle.collate_lines.specs.Record.{layer_of, said};

@@ -1,6 +1,6 @@
 //! The rule on prefixes (V10).
 
-ghost use Rattle.std.specs.Prelude.{◌≡◌, ◌==◌, ◌&&◌, ◌||◌, not, ℕ, List, [], ◌∷◌, map, IfOk, MatchOption};
+ghost use Rattle.std.specs.Prelude.{◌≡◌, ◌&&◌, map, IfOk, MatchOption};
 ghost use Rattle.std.specs.List.{list_all};
 ghost use Rattle.icu_collator_core.specs.ContextRules.{is_prefix_character, is_recorded_in, may_have_prefix};
 ghost use Rattle.collate_lines.specs.Record.{said};

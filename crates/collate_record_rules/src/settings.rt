@@ -1,12 +1,10 @@
 //! The rule on settings (`set`).
 
-ghost use Rattle.std.specs.Prelude.{◌≡◌, ◌==◌, ◌&&◌, ◌||◌, cond, not, ℕ, List, [], ◌∷◌, leb, map, replicate, Option, IfOk, MatchOption};
+ghost use Rattle.std.specs.Prelude.{◌≡◌, ◌==◌, ◌&&◌, ◌||◌, [], leb, map, Option, IfOk, MatchOption};
 ghost use Rattle.std.specs.List.{list_all, list_any};
-ghost use Rattle.std.specs.Option.{option_copied};
 ghost use Rattle.icu_collator_core.specs.SettingRules.{are_among, are_distinct, are_alike, is_amid_numbers, is_exchange, keep_compressible, never_falls};
 ghost use Rattle.icu_collator_core.specs.WeightRules.{is_letter_lead};
 ghost use Rattle.collate_lines.specs.Record.{said};
-ghost use Rattle.collate_rules.specs.Meaning.{compress_in, first_found, groups_in, is_compressible_in, numeric_in, reorder_in};
 ghost use Rattle.collate_rules.specs.Offenders.{NoneOffends, IsFirstOffender};
 ghost use Rattle.collate_rules.specs.SettingLines.{are_bad_groups, are_exchanged, breaks_settings, compress_of, groups_of, is_compressible_by, is_setting, numeric_of, reorder_of};
 

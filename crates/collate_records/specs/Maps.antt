@@ -1,9 +1,9 @@
 -- The classes and the mappings that lines give, as maps of which canonical data and compatibility data are made.
 use Rattle.std.specs.Prelude.{◌≡◌, ℕ, ◌≤◌, not, false, List, [], ◌∷◌, length, map, flat_map, Some, None}
 use Rattle.std.specs.Char.{IsScalar}
-use Rattle.icu_normalizer_core.specs.declared.canonical.builder.GivenClass.{GivenClass}
-use Rattle.icu_normalizer_core.specs.declared.canonical.builder.GivenCompatibility.{GivenCompatibility}
-use Rattle.icu_normalizer_core.specs.declared.canonical.builder.GivenMapping.{GivenMapping}
+use Rattle.icu_normalizer_core.specs.declared.builder.given.GivenClass.{GivenClass}
+use Rattle.icu_normalizer_core.specs.declared.builder.given.GivenCompatibility.{GivenCompatibility}
+use Rattle.icu_normalizer_core.specs.declared.builder.given.GivenMapping.{GivenMapping}
 use Rattle.icu_normalizer_core.specs.Canonical.{Leaves}
 use Rattle.icu_normalizer_core.specs.CanonicalMaps.{CanonicalMaps}
 use Rattle.icu_normalizer_core.specs.CompatibilityMaps.{AllMaps}

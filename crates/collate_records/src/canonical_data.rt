@@ -11,9 +11,8 @@ ghost use Rattle.collate_lines.specs.Record.{said};
 
 use crate::given_maps::given_maps;
 use collate_lines::record::Record;
-use icu_normalizer_core::canonical::{
-    CanonicalData, CanonicalDataBuildError, CanonicalDataError, CanonicalTables,
-};
+use icu_normalizer_core::builder::CanonicalDataBuildError;
+use icu_normalizer_core::canonical::{CanonicalData, CanonicalDataError, CanonicalTables};
 use std::alloc::{AllocError, Global};
 
 /// Canonical tables of accepted lines, which name at most so many code points: they pass every check. `AllocError` where

@@ -11,7 +11,7 @@ ghost use Rattle.collate_lines.specs.Record.{said};
 
 use crate::given_maps::given_maps;
 use collate_lines::record::Record;
-use icu_normalizer_core::canonical::CanonicalDataBuildError;
+use icu_normalizer_core::builder::CanonicalDataBuildError;
 use icu_normalizer_core::compatibility::NfkdTables;
 use std::alloc::{AllocError, Global};
 

@@ -7,7 +7,7 @@ ghost use Rattle.collate_records.specs.Maps.{AreAllMapsOf, MapsToSome, classes_i
 ghost use Rattle.collate_lines.specs.Record.{said};
 
 use collate_lines::record::Record;
-use icu_normalizer_core::canonical::CanonicalDataBuilder;
+use icu_normalizer_core::builder::CanonicalDataBuilder;
 use std::alloc::{AllocError, Global};
 
 /// The classes and the mappings of both kinds of accepted lines, in their order, in a builder that takes at most so many

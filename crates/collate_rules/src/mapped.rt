@@ -1,6 +1,6 @@
 //! To how many characters lines map a character, noted to be looked up.
 
-ghost use Rattle.std.specs.Prelude.{◌≡◌, ◌==◌, ◌∷◌, ◌++◌, ℕ, [], cond, List, Some, None, map, ltb, length, IfOk, OnOk, option_map};
+ghost use Rattle.std.specs.Prelude.{◌≡◌, ◌==◌, ◌∷◌, ◌++◌, ℕ, [], cond, List, Some, None, map, ltb, length, IfOk, OnOk};
 ghost use Rattle.std.specs.List.{list_any};
 ghost use Rattle.std.specs.Option.{option_or, option_to_list};
 ghost use Rattle.std.specs.Ordering.{nat_cmp};

@@ -1,6 +1,6 @@
 //! A run: the commands of a reader, each answered to a writer.
 
-ghost use Rattle.std.specs.Prelude.{◌≡◌, ◌+◌, ◌≤◌, ◌↔◌, ◌++◌, ℕ, List, length, flat_map, false, true, Ok, Err, IfErr, IfOk, IfSome, OnOk, is_err, ◌||◌};
+ghost use Rattle.std.specs.Prelude.{◌≡◌, ◌+◌, ◌≤◌, ◌↔◌, ◌++◌, ℕ, List, flat_map, false, true, Ok, Err, IfErr, IfOk, IfSome, OnOk, is_err, ◌||◌};
 ghost use Rattle.std.specs.Io.KnownBytes.{Consumes};
 ghost use Rattle.collate_index.specs.Catalogue.{opened};
 ghost use Rattle.collate_run.specs.Reading.{GivesByte, ReadsLine, ReadsRequest, is_read_fault};

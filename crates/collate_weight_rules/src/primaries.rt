@@ -1,6 +1,6 @@
 //! The rule on primaries (V2): it asks for what the file sets of leads too.
 
-ghost use Rattle.std.specs.Prelude.{◌≡◌, ◌<◌, ◌≤◌, ◌↔◌, length, map, take, IsTrue, IfOk, MatchOption};
+ghost use Rattle.std.specs.Prelude.{◌≡◌, ◌<◌, ◌↔◌, length, map, take, IsTrue, IfOk, MatchOption};
 ghost use Rattle.std.specs.List.{list_all};
 ghost use Rattle.icu_collator_core.specs.PlainLeads.{plain_leads};
 ghost use Rattle.collate_lines.specs.Record.{said};

@@ -1,6 +1,6 @@
 //! The lists that words name indices in, as they grow.
 
-ghost use Rattle.std.specs.Prelude.{◌≡◌, ◌^◌, ◌+◌, ◌*◌, ◌<◌, [], length};
+ghost use Rattle.std.specs.Prelude.{◌≡◌, ◌^◌, ◌+◌, ◌*◌, ◌<◌, []};
 
 use std::alloc::Global;
 use std::marker::Model;

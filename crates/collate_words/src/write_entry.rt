@@ -1,6 +1,6 @@
 //! The word of a character, with all that is recorded of the texts that begin with it.
 
-ghost use Rattle.std.specs.Prelude.{◌≡◌, ℕ, IfOk};
+ghost use Rattle.std.specs.Prelude.{ℕ, IfOk};
 ghost use Rattle.icu_collator_core.specs.Pools.{Pools as Lists};
 ghost use Rattle.collate_words.specs.Entries.{saying_of};
 ghost use Rattle.collate_words.specs.Fits.{HasRoom, IsFit};

@@ -1,5 +1,5 @@
 -- Runs of marks by the classes of the marks, and texts that take marks out of them.
-use Rattle.std.specs.Prelude.{◌≡◌, ℕ, ◌<◌, ◌≤◌, ◌==◌, ◌&&◌, Bool, true, not, ltb, List, [], ◌∷◌, ◌++◌, drop, flat_map, Option}
+use Rattle.std.specs.Prelude.{◌≡◌, ℕ, ◌<◌, ◌==◌, ◌&&◌, Bool, true, not, ltb, List, [], ◌∷◌, ◌++◌, drop, flat_map, Option}
 use Rattle.std.specs.Option.{unwrap_or}
 use Rattle.std.specs.List.{list_all}
 use lib.Utf8.{scalar, scalars}

@@ -1,5 +1,5 @@
 -- Texts that are read by stretches as far as is asked: what was read, and what stands of it.
-use Rattle.std.specs.Prelude.{◌≡◌, ℕ, ◌≤◌, ◌⊎◌, All, Bool, true, false, List, [], ◌∷◌, ◌++◌, length, take, Option}
+use Rattle.std.specs.Prelude.{◌≡◌, ℕ, ◌≤◌, ◌⊎◌, All, true, false, List, [], ◌∷◌, ◌++◌, length, take, Option}
 use Rattle.std.specs.Char.{IsScalar}
 use Rattle.icu_normalizer_core.specs.Iter.{Spells}
 use Rattle.icu_collator_types.specs.declared.elements.Element.{Element}

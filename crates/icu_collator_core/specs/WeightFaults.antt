@@ -1,5 +1,5 @@
 -- What the tables of a collation are refused for by their weights: one predicate for each fault.
-use Rattle.std.specs.Prelude.{◌≡◌, ◌≢◌, ℕ, ◌+◌, ◌-◌, ◌*◌, ◌/◌, ◌%◌, ◌^◌, ◌<◌, ◌↔◌, ◌⊎◌, Bool, true, false, cond, not, ◌==◌, ◌&&◌, ◌||◌, leb, ltb, min, List, [], ◌∷◌, length, slice_index, Option, Some, None, IfSome}
+use Rattle.std.specs.Prelude.{◌≡◌, ◌≢◌, ℕ, ◌+◌, ◌-◌, ◌*◌, ◌/◌, ◌%◌, ◌^◌, ◌<◌, ◌↔◌, ◌⊎◌, Bool, true, false, cond, ◌==◌, ◌&&◌, ◌||◌, leb, ltb, min, List, [], ◌∷◌, length, slice_index, Option, Some, None, IfSome}
 use Rattle.std.specs.List.{list_all}
 use Rattle.icu_collator_types.specs.declared.elements.Element.{Element}
 use Rattle.icu_collator_types.specs.declared.elements.word_tags.Tag.TheVariants.{Offset}

@@ -4,8 +4,8 @@ use Rattle.std.specs.Set.{distinct_count}
 use Rattle.std.specs.Option.{is_some, unwrap_or, IsSomeAnd}
 use Rattle.std.specs.Char.{IsScalar}
 use Rattle.icu_codepointtrie.specs.Slots.{TrieTables, value_at, has_cell}
-use Rattle.icu_normalizer_core.specs.declared.canonical.builder.GivenClass.{GivenClass}
-use Rattle.icu_normalizer_core.specs.declared.canonical.builder.GivenMapping.{GivenMapping}
+use Rattle.icu_normalizer_core.specs.declared.builder.given.GivenClass.{GivenClass}
+use Rattle.icu_normalizer_core.specs.declared.builder.given.GivenMapping.{GivenMapping}
 use Rattle.icu_normalizer_core.specs.BuiltIn.{built_in_step}
 use Rattle.icu_normalizer_core.specs.Canonical.{IsFree}
 use Rattle.icu_normalizer_core.specs.CanonicalLists.{CanonicalLists, AreTriples, ArePairs, listed_step, listed_pair}

@@ -3,9 +3,9 @@ use Rattle.std.specs.Prelude.{◌≡◌, ℕ, zero, suc, ◌-◌, ◌/◌, ◌<�
 use Rattle.std.specs.Option.{unwrap_or, IfSome}
 use Rattle.icu_codepointtrie.specs.Blocks.{different_blocks}
 use Rattle.icu_codepointtrie.specs.CodePointMaps.{CodePointMap, mapped}
-use Rattle.icu_normalizer_core.specs.declared.canonical.builder.GivenClass.{GivenClass}
-use Rattle.icu_normalizer_core.specs.declared.canonical.builder.GivenMapping.{GivenMapping}
-use Rattle.icu_normalizer_core.specs.declared.canonical.builder.list_words.ListWords.{ListWords}
+use Rattle.icu_normalizer_core.specs.declared.builder.given.GivenClass.{GivenClass}
+use Rattle.icu_normalizer_core.specs.declared.builder.given.GivenMapping.{GivenMapping}
+use Rattle.icu_normalizer_core.specs.declared.builder.list_words.ListWords.{ListWords}
 use Rattle.icu_normalizer_core.specs.BuiltIn.{built_in_class, is_syllable}
 use Rattle.icu_normalizer_core.specs.Canonical.{Leaves, IsFree}
 use Rattle.icu_normalizer_core.specs.CanonicalLists.{step_in}

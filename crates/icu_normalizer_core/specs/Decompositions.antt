@@ -2,7 +2,7 @@
 use Rattle.std.specs.Prelude.{◌≡◌, ℕ, ◌+◌, ◌*◌, ◌≤◌, true, List, flat_map, Option, Result}
 use Rattle.std.specs.Iterator.{Count}
 use Rattle.icu_normalizer_core.specs.Canonical.{Canonical}
-use Rattle.icu_normalizer_core.specs.declared.decomposition.Decomposition.{Decomposition}
+use Rattle.icu_normalizer_core.specs.declared.decomposition.characters.Decomposition.{Decomposition}
 use Rattle.icu_normalizer_core.specs.Iter.{SourceSpells, SourceIsReady, source_size, source_calls, YieldsFirstOk, EndsOnce}
 use Rattle.icu_normalizer_core.specs.Run.{reordered, held, data_of}
 

@@ -2,7 +2,7 @@
 use Rattle.std.specs.Prelude.{◌≡◌, ℕ, List, option_map}
 use Rattle.std.specs.BTreeMap.{BTreeMap, get}
 use Rattle.std.specs.Ordering.{nat_cmp}
-use Rattle.icu_normalizer_core.specs.declared.canonical.builder.GivenClass.{GivenClass}
+use Rattle.icu_normalizer_core.specs.declared.builder.given.GivenClass.{GivenClass}
 use Rattle.icu_normalizer_core.specs.CanonicalMaps.{first_class}
 
 -- a map has the first class of each character

@@ -1,6 +1,6 @@
 // What is built in: Hangul, jamo, U+FFFD, seven decompositions, two compatibility mappings, and classes.
 
-ghost use Rattle.std.specs.Prelude.{◌≡◌, ◌↔◌, ◌<◌, ◌≤◌, ℕ, Option, Some, option_map, is_some, true, IsTrue};
+ghost use Rattle.std.specs.Prelude.{◌≡◌, ◌↔◌, ◌<◌, ◌≤◌, Option, Some, option_map, is_some, true, IsTrue};
 ghost use Rattle.icu_normalizer_core.specs.BuiltIn.{is_syllable, is_open_syllable, is_jamo, singled_out, syllable_step, syllable_of, built_in_step, built_in_compatibility_step, is_built_in, built_in_class};
 ghost use Rattle.icu_normalizer_core.specs.Properties.{mapped_to};
 

@@ -1,23 +1,19 @@
 //! Canonical data in packed tables: classes, mappings, full lists and composed pairs of all characters.
 
 mod borrowed;
-mod builder;
 pub(crate) mod canonical_words;
 mod character_data;
 pub(crate) mod check;
 mod data;
 pub(crate) mod full_list;
-mod packing;
+pub(crate) mod packing;
 mod pairs;
 mod search;
 pub(crate) mod steady;
-mod steps;
+pub(crate) mod steps;
 pub(crate) mod tables;
 
 pub use borrowed::CanonicalBorrowed;
-pub use builder::{
-    CanonicalDataBuildError, CanonicalDataBuilder, GivenClass, GivenCompatibility, GivenMapping,
-};
 pub use character_data::Reading;
 pub use data::{CanonicalData, CanonicalDataError};
 pub use full_list::FullList;

@@ -2,6 +2,7 @@
 //! `decoding::decode_utf8`, the characters of bytes.
 #![tactic(auto)]
 
+pub mod builder;
 pub mod built_in;
 pub mod canonical;
 pub mod compatibility;

@@ -5,7 +5,8 @@ use icu_collator_core::tables::{
     CollationData, CollationDiacritics, CollationJamo, CollationMetadata, CollationReordering,
     CollationSpecialPrimaries, CollationTables,
 };
-use icu_normalizer_core::canonical::{CanonicalData, CanonicalDataBuilder};
+use icu_normalizer_core::builder::CanonicalDataBuilder;
+use icu_normalizer_core::canonical::CanonicalData;
 use icu_packed_vector::PackedVec;
 use std::alloc::{AllocError, Global};
 

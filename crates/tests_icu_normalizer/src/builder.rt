@@ -1,9 +1,7 @@
 //! Canonical tables that are built of classes and mappings.
 
-use icu_normalizer_core::canonical::{
-    CanonicalBorrowed, CanonicalData, CanonicalDataBuildError, CanonicalDataBuilder,
-    CanonicalTables,
-};
+use icu_normalizer_core::builder::{CanonicalDataBuildError, CanonicalDataBuilder};
+use icu_normalizer_core::canonical::{CanonicalBorrowed, CanonicalData, CanonicalTables};
 use icu_normalizer_core::compatibility::{CompatibilityBorrowed, CompatibilityData};
 use samples_icu_normalizer::tables::{PAIRS, STEPS, tables};
 use std::alloc::{AllocError, Global};

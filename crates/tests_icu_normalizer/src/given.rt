@@ -2,7 +2,8 @@
 //! normalisers over them give.
 
 use crate::calls::{Ask, Kind, gives};
-use icu_normalizer_core::canonical::{CanonicalDataBuilder, CanonicalTables};
+use icu_normalizer_core::builder::CanonicalDataBuilder;
+use icu_normalizer_core::canonical::CanonicalTables;
 use icu_normalizer_core::compatibility::NfkdTables;
 use samples_icu_normalizer::held::Held;
 use std::alloc::Global;

@@ -1,8 +1,7 @@
 //! Data from a provider, and in which order what is wrong is named.
 
-use icu_normalizer_core::canonical::{
-    CanonicalBorrowed, CanonicalDataBuildError, CanonicalDataError, CanonicalFault,
-};
+use icu_normalizer_core::builder::CanonicalDataBuildError;
+use icu_normalizer_core::canonical::{CanonicalBorrowed, CanonicalDataError, CanonicalFault};
 use icu_normalizer_core::properties::{
     CanonicalCombiningClassMap, CanonicalCombiningClassMapBorrowed, CanonicalComposition,
     CanonicalCompositionBorrowed, CanonicalDecomposition, CanonicalDecompositionBorrowed,

@@ -1,8 +1,7 @@
 //! What is given to a builder again: the same class or mapping, or another one of the same character.
 
-use icu_normalizer_core::canonical::{
-    CanonicalData, CanonicalDataBuildError, CanonicalDataBuilder,
-};
+use icu_normalizer_core::builder::{CanonicalDataBuildError, CanonicalDataBuilder};
+use icu_normalizer_core::canonical::CanonicalData;
 use std::alloc::{AllocError, Global};
 
 /// Data in which U+0323 was given each of these classes, one after another.

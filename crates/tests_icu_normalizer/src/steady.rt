@@ -1,6 +1,7 @@
 //! Characters that composing leaves alone.
 
-use icu_normalizer_core::canonical::{CanonicalBorrowed, CanonicalData, CanonicalDataBuilder};
+use icu_normalizer_core::builder::CanonicalDataBuilder;
+use icu_normalizer_core::canonical::{CanonicalBorrowed, CanonicalData};
 use std::alloc::{AllocError, Global};
 
 /// A builder that was given letters with marks, a vowel that is the second of a pair, and a letter that composing

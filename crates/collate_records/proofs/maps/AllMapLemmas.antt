@@ -10,7 +10,7 @@ use Rattle.std.specs.Str.{bytes_eq}
 use Rattle.std.proofs.lemmas.Bool.{cases_eq, cond-false, cond-true, false_from_ne_true, or_left, or_right, true_from_ne_false}
 use Rattle.std.proofs.lemmas.List.Elements.{All-weaker}
 use Rattle.std.proofs.lemmas.List.Folds.{flat_map-map}
-use Rattle.icu_normalizer_core.specs.declared.canonical.builder.GivenMapping.{GivenMapping}
+use Rattle.icu_normalizer_core.specs.declared.builder.given.GivenMapping.{GivenMapping}
 use Rattle.icu_normalizer_core.specs.BuiltIn.{built_in_compatibility_step, built_in_step, is_jamo, is_syllable, is_built_in}
 use Rattle.icu_normalizer_core.specs.Canonical.{Leaves}
 use Rattle.icu_normalizer_core.specs.CanonicalMaps.{BeginsWithStarter, CanonicalMaps, KeepRulesWithin, class_of as class_of_maps, first_mapping, mapping_given, named as named_by, step_of as step_of_maps}

@@ -9,7 +9,7 @@ use Rattle.std.proofs.lemmas.Bool.Decides.{nat_tests}
 use Rattle.std.proofs.lemmas.Option.{cond_some, none-some}
 use Rattle.std.proofs.lemmas.List.Elements.{All-cons, All-head, All-nil, All-tail, All-weaker}
 use Rattle.std.proofs.Math.Bool.{or-false}
-use Rattle.icu_normalizer_core.specs.declared.canonical.builder.GivenCompatibility.{GivenCompatibility}
+use Rattle.icu_normalizer_core.specs.declared.builder.given.GivenCompatibility.{GivenCompatibility}
 use Rattle.icu_normalizer_core.specs.CompatibilityMaps.{given_compatibility}
 use Rattle.collate_lines.specs.declared.rule.Rule.TheVariants.{V14}
 use Rattle.collate_lines.specs.Record.{Record, nothing, class, mapping, compatibility, weights, range, digit, setting}

@@ -9,7 +9,7 @@ use Rattle.std.proofs.lemmas.Bool.Decides.{nat_tests}
 use Rattle.std.proofs.lemmas.Option.{unwrap_or-slice_get}
 use Rattle.std.proofs.lemmas.List.Elements.{All-head, All-tail, All-get_or}
 use Rattle.std.proofs.Math.Bool.{and-false}
-use Rattle.icu_normalizer_core.specs.declared.canonical.builder.GivenMapping.{GivenMapping}
+use Rattle.icu_normalizer_core.specs.declared.builder.given.GivenMapping.{GivenMapping}
 use Rattle.icu_normalizer_core.specs.BuiltIn.{built_in_class, built_in_step, built_in_compatibility_step, syllable_of, is_built_in}
 use Rattle.icu_normalizer_core.specs.Canonical.{IsDecomposing}
 use Rattle.icu_normalizer_core.specs.CanonicalMaps.{AreMeaning, given_step, given_pair, composes, class_of as class_of_maps, step_of as step_of_maps, pair_of as pair_of_maps}

@@ -7,7 +7,7 @@ use Rattle.std.proofs.lemmas.Option.{unwrap_or-slice_get}
 use Rattle.std.proofs.lemmas.List.{get_or-take, length-take}
 use Rattle.std.proofs.lemmas.List.Folds.{list_any_at}
 use Rattle.std.proofs.lemmas.List.Elements.{All-contains}
-use Rattle.icu_normalizer_core.specs.declared.canonical.builder.GivenMapping.{GivenMapping}
+use Rattle.icu_normalizer_core.specs.declared.builder.given.GivenMapping.{GivenMapping}
 use Rattle.icu_normalizer_core.specs.BuiltIn.{is_within, is_built_in}
 use Rattle.icu_normalizer_core.specs.CanonicalMaps.{composes, ComposeAlike}
 use Rattle.collate_lines.specs.Record.{Record, nothing, mapping}

@@ -1,6 +1,6 @@
 //! The comparison of two texts, each in its encoding.
 
-ghost use Rattle.std.specs.Prelude.{◌≡◌, ◌≤◌, All, IfOk, IfSome, drop, length};
+ghost use Rattle.std.specs.Prelude.{◌≡◌, ◌≤◌, All, IfOk, drop, length};
 ghost use Rattle.std.specs.Char.{IsScalar};
 ghost use Rattle.icu_collator.specs.Collators.{source_collation};
 ghost use Rattle.icu_collator.specs.Fronts.{PartAt};

@@ -1,8 +1,8 @@
 //! The case level of a key: half bytes in pairs.
 
-ghost use Rattle.std.specs.Prelude.{◌≡◌, ◌<◌, ◌≤◌, ◌==◌, [], ◌++◌, cond, All, OnOk};
+ghost use Rattle.std.specs.Prelude.{◌≡◌, ◌<◌, ◌≤◌, ◌==◌, ◌++◌, All, OnOk};
 ghost use Rattle.std.specs.List.{list_all};
-ghost use Rattle.icu_collator.specs.KeyBytes.{lower_case_code, paired_halves, upper_case_code, with_runs};
+ghost use Rattle.icu_collator.specs.KeyBytes.{paired_halves};
 ghost use Rattle.icu_collator.specs.KeyCodes.{halves_of};
 
 use super::buffer::KeyBytes;

@@ -6,7 +6,7 @@ ghost use Rattle.icu_collator.specs.Collators.{source_collation};
 ghost use Rattle.icu_collator.specs.Shifted.{Counted};
 ghost use Rattle.icu_collator.specs.declared.levels.counted_elements.CountedElement.{CountedElement};
 ghost use Rattle.icu_collator.specs.KeyCodes.{is_small_place};
-ghost use Rattle.icu_collator.specs.LevelLists.{cases_by, counted_list, counted_of, has_sound_case, primaries_by, quaternary_ranks, secondary_ranks, tertiaries_by};
+ghost use Rattle.icu_collator.specs.LevelLists.{cases_by, counted_list, counted_of, has_sound_case, quaternary_ranks, secondary_ranks};
 ghost use Rattle.icu_collator.specs.Levels.{quaternary_at, secondary_at};
 ghost use Rattle.icu_collator.specs.Order.{secondary_rank};
 

@@ -1,6 +1,6 @@
 //! Keys that are there as a whole, on their way to a sink.
 
-ghost use Rattle.std.specs.Prelude.{◌++◌, List, ℕ, OnOk, IfOk, IfErr};
+ghost use Rattle.std.specs.Prelude.{IfOk, IfErr};
 
 use super::CollationKeySink;
 

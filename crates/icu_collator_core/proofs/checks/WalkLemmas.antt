@@ -1,5 +1,5 @@
 -- What the units of keys come to, where their characters are folded one after another.
-use Rattle.std.proofs.Common.{◌≡◌, ◌↔◌, ℕ, ℤ, Bool, true, false, cond, not, ◌&&◌, List, [], ◌∷◌, Option, Some, None, refl, ap, sym, subst, ◌∙◌}
+use Rattle.std.proofs.Common.{◌≡◌, ◌↔◌, ℕ, ℤ, Bool, true, false, cond, ◌&&◌, List, [], ◌∷◌, Option, Some, None, refl, ap, sym, subst, ◌∙◌}
 use Rattle.std.specs.Bool.{IsTrue}
 use Rattle.std.specs.Prelude.{fold}
 use Rattle.std.specs.List.{Contains}
@@ -7,7 +7,6 @@ use Rattle.std.specs.Option.{option_map}
 use Rattle.std.proofs.lemmas.Bool.{and_from, and_parts, false≢true}
 use Rattle.std.proofs.lemmas.Option.{none-some, same_Some}
 use Rattle.icu_char16trie.specs.KeyFolds.{AreFolded}
-use Rattle.icu_char16trie.specs.UnitGrammar.{IsUnitTrie}
 use Rattle.icu_normalizer_core.specs.BuiltIn.{is_within}
 use Rattle.icu_collator_core.specs.declared.check.walks.Reading.{Reading}
 use Rattle.icu_collator_core.specs.declared.check.walks.Reading.TheVariants.{Whole, Half, Broken}

@@ -1,11 +1,11 @@
 -- A text that begins with a mark is what marks join, one after another, from the mark alone.
-use Rattle.std.proofs.Common.{◌≡◌, ℕ, zero, suc, ◌+◌, ◌-◌, ◌<◌, ◌≤◌, Bool, true, false, List, [], ◌∷◌, ◌++◌, length, take, drop, Option, Some, None, refl, sym, ◌∙◌, ap, subst, arith, append_assoc, append-nil, length-take, inl, inr}
-use Rattle.std.specs.Prelude.{◌==◌, ◌&&◌, ltb, not}
+use Rattle.std.proofs.Common.{◌≡◌, ℕ, zero, suc, ◌+◌, ◌-◌, ◌<◌, ◌≤◌, Bool, true, List, [], ◌∷◌, ◌++◌, length, take, drop, Option, Some, None, refl, sym, ◌∙◌, ap, subst, arith, append_assoc, append-nil, inl, inr}
+use Rattle.std.specs.Prelude.{◌&&◌, ltb, not}
 use Rattle.std.specs.List.{list_all}
 use Rattle.std.specs.Option.{is_some, unwrap_or}
-use Rattle.std.proofs.lemmas.Bool.{and_from, and_parts, cases_eq, leb-true, ltb-true}
+use Rattle.std.proofs.lemmas.Bool.{and_from, and_parts, cases_eq, ltb-true}
 use Rattle.std.proofs.lemmas.List.{length-take-le}
-use Rattle.std.proofs.lemmas.Option.{cond_some, none-some, same_Some}
+use Rattle.std.proofs.lemmas.Option.{cond_some}
 use Rattle.icu_normalizer_core.specs.Canonical.{Canonical, is_starter}
 use Rattle.icu_collator_core.specs.Elements.{Placed, at_greatest, characters_of, joining, match_length, recorded_length, text_match}
 use Rattle.icu_collator_core.specs.Weights.{Weights}

@@ -1,27 +1,26 @@
 -- What is left of a run, class by class.
-use Rattle.std.proofs.Common.{◌≡◌, ℕ, zero, suc, ◌+◌, ◌<◌, ◌≤◌, ◌==◌, Bool, true, false, ◌&&◌, ltb, List, [], ◌∷◌, ◌++◌, length, take, drop, Option, Some, None, refl, sym, ◌∙◌, ap, subst, arith, append_assoc, append-nil, add-one, length-append, length-drop, inl, inr}
-use Rattle.std.specs.Prelude.{flat_map, get_or, not, set, slice_index}
+use Rattle.std.proofs.Common.{◌≡◌, ℕ, zero, suc, ◌+◌, ◌<◌, ◌≤◌, ◌==◌, Bool, true, false, ◌&&◌, List, [], ◌∷◌, ◌++◌, length, take, drop, None, refl, sym, ◌∙◌, ap, subst, arith, append_assoc, append-nil, length-append, length-drop, inl, inr}
+use Rattle.std.specs.Prelude.{get_or, not, set, slice_index}
 use Rattle.std.specs.List.{list_all}
 use Rattle.std.proofs.lemmas.Bool.{and_from, and_parts, cases_eq, eq-eqb, eqb-true, false≢true, lt-ltb}
 use Rattle.std.proofs.lemmas.Grind.{flat_map-append}
 use Rattle.std.proofs.lemmas.List.{drop-append-le, drop-set-lt, drop_all, drop_more, length-take-le, take-append-drop, take_all, take_more, take_more_set}
 use Rattle.std.proofs.lemmas.List.Folds.{list_all-append}
 use lib.Utf8.{scalar, scalars}
-use Rattle.icu_char16trie.specs.Cursors.{cursor_state, cursor_units, units_of}
+use Rattle.icu_char16trie.specs.Cursors.{cursor_state, cursor_units}
 use Rattle.icu_char16trie.specs.UnitSteps.{start}
 use Rattle.icu_char16trie.specs.declared.Char16TrieIterator.{Char16TrieIterator}
 use Rattle.icu_normalizer_core.specs.Canonical.{Canonical}
 use Rattle.icu_collator_core.specs.declared.reading.mark_runs.ClassMarks.{ClassMarks}
 use Rattle.icu_collator_core.specs.declared.reading.mark_runs.MarkedText.{MarkedText}
-use Rattle.icu_collator_core.specs.Elements.{Joining, Placed, characters_of, joining, placed}
+use Rattle.icu_collator_core.specs.Elements.{Placed, characters_of, joining, placed}
 use Rattle.icu_collator_core.specs.JoinedTexts.{has_suffixes}
-use Rattle.icu_collator_core.specs.MarkRuns.{HasJoinedTo, HasLeft, HasMetClass, HasTaken, are_of_class, are_of_classes, ends_run, is_class_of_marks, marks_left}
-use Rattle.icu_collator_core.specs.ReadTexts.{IsAtText, suffix_units}
+use Rattle.icu_collator_core.specs.MarkRuns.{HasJoinedTo, HasLeft, HasMetClass, are_of_class, are_of_classes, ends_run, is_class_of_marks, marks_left}
+use Rattle.icu_collator_core.specs.ReadTexts.{suffix_units}
 use Rattle.icu_collator_core.specs.ReadWords.{AreSaidBy}
 use Rattle.icu_collator_core.specs.TableMeaning.{TableWord}
 use Rattle.icu_collator_core.specs.Weights.{Weights}
 use Rattle.icu_collator_core.proofs.lookups.FoundTextLemmas.{joining_alone}
-use Rattle.icu_collator_core.proofs.lookups.MarkRunLemmas.{characters_dropped, class_dropped, length_characters}
 use Rattle.icu_collator_core.proofs.lookups.OpenTextLemmas.{joining_ends, placed_next, scalars_behind}
 use Rattle.icu_collator_core.proofs.lookups.PlacedLemmas.{take_less}
 use Rattle.icu_collator_core.proofs.lookups.JoinedTextLemmas.{placed_end}

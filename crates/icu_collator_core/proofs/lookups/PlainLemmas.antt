@@ -6,11 +6,9 @@ use Rattle.std.proofs.lemmas.List.{length-take-le}
 use Rattle.std.specs.Prelude.{◌==◌, IfSome, option_map}
 use Rattle.std.specs.Option.{option_and_then, unwrap_or}
 use lib.Utf8.{scalars}
-use Rattle.icu_collator_types.specs.declared.elements.Element.{Element}
 use Rattle.icu_collator_types.specs.declared.elements.word_tags.Tag.{Tag}
 use Rattle.icu_collator_types.specs.declared.elements.word_tags.Tag.TheVariants.{Contraction, Digit, Implicit, Offset, Prefix}
 use Rattle.icu_collator_types.specs.ElementWords.{has_tag, self_contained, tag_number}
-use Rattle.icu_collator_core.specs.Defaults.{default_elements}
 use Rattle.icu_collator_core.specs.Elements.{Placed, at_greatest, behind_prefix, longest_prefix}
 use Rattle.icu_collator_core.specs.PlainWords.{IsReadAlone, IsReadUncounted, IsUnprefixed}
 use Rattle.icu_collator_core.specs.Pools.{Pools, element_of, elements_of_word, lone_word, stated_element, unprefixed_word}

@@ -1,6 +1,6 @@
 -- What accepted tables say of texts that begin with a mark: they have marks only, and are recorded without the last one too.
 use Rattle.std.proofs.Common.{◌≡◌, ◌≢◌, ℕ, ◌-◌, ◌<◌, Bool, true, false, List, [], ◌∷◌, Option, Some, None, refl, sym, ◌∙◌, ap, arith, inl, inr, cond}
-use Rattle.std.specs.Prelude.{◌&&◌, ◌||◌, ◌==◌, leb, length, not, reverse, take}
+use Rattle.std.specs.Prelude.{◌&&◌, ◌||◌, leb, length, not, reverse, take}
 use Rattle.std.specs.Char.{IsScalar}
 use Rattle.std.specs.List.{list_all}
 use Rattle.std.specs.Option.{is_some}

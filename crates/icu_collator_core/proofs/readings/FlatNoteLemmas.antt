@@ -1,5 +1,5 @@
 -- What a note of a character says of its elements.
-use Rattle.std.proofs.Common.{◌≡◌, ◌↔◌, ◌≤◌, ◌<◌, ℕ, Bool, true, false, IsTrue, not, length, ◌==◌, ◌&&◌, ◌||◌, List, [], ◌∷◌, ⊎_elim, inl, inr, Option, None, Some, arith, refl, ap, ◌∙◌}
+use Rattle.std.proofs.Common.{◌≡◌, ◌↔◌, ◌≤◌, ◌<◌, ℕ, Bool, true, false, IsTrue, not, length, ◌==◌, ◌&&◌, ◌||◌, List, [], ◌∷◌, ⊎_elim, inl, inr, Option, None, arith, refl, ap, ◌∙◌}
 use Rattle.std.specs.List.{AllByRecursion}
 use Rattle.std.specs.Prelude.{slice_index}
 use Rattle.std.specs.Option.{is_some}

@@ -1,5 +1,5 @@
 -- Characters whose marks stand in order.
-use Rattle.std.proofs.Common.{◌≡◌, ℕ, Bool, false, ltb, ◌&&◌, cond, List, [], ◌∷◌, ◌++◌, ◌⊎◌, ⊎_elim, refl, sym, ◌∙◌, ap, ◌≤◌, arith}
+use Rattle.std.proofs.Common.{◌≡◌, ℕ, Bool, false, ltb, ◌&&◌, cond, List, [], ◌∷◌, ◌++◌, ◌⊎◌, ⊎_elim, refl, ◌∙◌, ap, ◌≤◌, arith}
 use Rattle.std.proofs.lemmas.Bool.{and_left, and_right, le-ltb}
 use Rattle.icu_normalizer_core.specs.Canonical.{marks_in_order, put_in_order}
 use Rattle.icu_collator_core.specs.FlatNotes.{MayFollow, StandInOrder, last_class}

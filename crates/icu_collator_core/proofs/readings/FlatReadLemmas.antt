@@ -1,5 +1,5 @@
 -- Characters that are read one by one, whatever stands around them, and texts of such characters.
-use Rattle.std.proofs.Common.{◌≡◌, ℕ, ◌≤◌, Bool, true, ◌&&◌, List, [], ◌∷◌, ◌++◌, ◌⊎◌, ⊎_elim, inl, inr, flat_map, length, take, Option, Some, None, refl, sym, ◌∙◌, ap, subst, arith, append_assoc, append-nil}
+use Rattle.std.proofs.Common.{◌≡◌, ℕ, ◌≤◌, true, List, [], ◌∷◌, ◌++◌, ◌⊎◌, ⊎_elim, inl, flat_map, length, take, Option, Some, None, refl, sym, ◌∙◌, ap, subst, append_assoc, append-nil}
 use Rattle.std.specs.Option.{is_some}
 use Rattle.std.proofs.lemmas.Bool.{and_from}
 use Rattle.std.proofs.lemmas.List.{map-append}
@@ -13,7 +13,7 @@ use Rattle.icu_collator_core.specs.Boundaries.{after}
 use Rattle.icu_collator_core.specs.ElementLists.{unpacked}
 use Rattle.icu_collator_core.specs.Elements.{Placed, Reading, elements_within, longest_prefix, placed_behind}
 use Rattle.icu_collator_core.specs.ElementTexts.{text_elements}
-use Rattle.icu_collator_core.specs.FlatNotes.{AreReadBefore, AreReadFlat, IsBoundaryApart, IsFlat, IsPushed, IsReadInOrder, MayStandBehind, StandInOrder, elements_behind, last_class}
+use Rattle.icu_collator_core.specs.FlatNotes.{AreReadBefore, AreReadFlat, IsBoundaryApart, IsPushed, IsReadInOrder, MayStandBehind, StandInOrder, elements_behind, last_class}
 use Rattle.icu_collator_core.specs.Pools.{element_of}
 use Rattle.icu_collator_core.specs.ReadSources.{canonical_by, weights_by}
 use Rattle.icu_collator_core.proofs.lookups.MatchLemmas.{scalars_front}

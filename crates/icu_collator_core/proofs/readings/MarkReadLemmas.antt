@@ -1,5 +1,5 @@
 -- The reading of marks of a run, one after another, by what is left of the run.
-use Rattle.std.proofs.Common.{◌≡◌, ℕ, suc, ◌+◌, ◌-◌, ◌<◌, ◌≤◌, ◌==◌, ◌&&◌, ◌||◌, Bool, true, false, List, [], ◌∷◌, ◌++◌, length, take, drop, Option, Some, None, refl, sym, ◌∙◌, ap, subst, arith, append_assoc, append-nil}
+use Rattle.std.proofs.Common.{◌≡◌, ℕ, suc, ◌+◌, ◌-◌, ◌≤◌, ◌==◌, ◌&&◌, ◌||◌, Bool, true, false, List, [], ◌∷◌, ◌++◌, length, take, drop, Some, None, refl, sym, ◌∙◌, ap, subst, arith, append_assoc}
 use Rattle.std.specs.Option.{is_some, unwrap_or}
 use Rattle.std.proofs.lemmas.List.{drop-drop, take-append-drop}
 use Rattle.icu_normalizer_core.specs.Canonical.{Canonical}
@@ -7,9 +7,9 @@ use Rattle.icu_collator_types.specs.declared.elements.Element.{Element}
 use Rattle.icu_collator_core.specs.declared.reading.mark_runs.ClassMarks.{ClassMarks}
 use Rattle.icu_collator_core.specs.Defaults.{default_elements, primary_element, special_primary}
 use Rattle.icu_collator_core.specs.ElementLists.{AddsElements, unpacked}
-use Rattle.icu_collator_core.specs.Elements.{Joining, Placed, Reading, characters_of, elements_within, is_before_accent, joining, placed, prefix_match, reading, text_match, text_reading}
+use Rattle.icu_collator_core.specs.Elements.{Joining, Placed, Reading, characters_of, elements_within, is_before_accent, placed, prefix_match, reading, text_reading}
 use Rattle.icu_collator_core.specs.MarkRuns.{HasPushed, HasReadFirst, marks_left}
-use Rattle.icu_collator_core.specs.ReadSteps.{IsRead, elements_from, reading_in_context}
+use Rattle.icu_collator_core.specs.ReadSteps.{IsRead, elements_from}
 use Rattle.icu_collator_core.specs.Weights.{Weights}
 use Rattle.icu_collator_core.proofs.lookups.JoinedTextLemmas.{part_characters}
 use Rattle.icu_collator_core.proofs.lookups.MarkTextLemmas.{mark_match}

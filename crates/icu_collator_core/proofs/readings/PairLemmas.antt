@@ -1,5 +1,5 @@
 -- Two characters that stand together, and their elements.
-use Rattle.std.proofs.Common.{◌≡◌, ℕ, zero, suc, ◌≤◌, ◌==◌, Bool, true, false, ◌&&◌, ◌||◌, ◌+◌, ltb, cond, List, [], ◌∷◌, ◌++◌, length, take, drop, Option, Some, None, inl, inr, refl, sym, ◌∙◌, ap, subst, arith, append_assoc, append-nil}
+use Rattle.std.proofs.Common.{◌≡◌, ℕ, suc, ◌≤◌, ◌==◌, Bool, true, false, ◌&&◌, ◌||◌, ◌+◌, ltb, cond, List, [], ◌∷◌, ◌++◌, length, take, drop, Option, Some, None, inl, inr, refl, sym, ◌∙◌, ap, subst, arith, append_assoc, append-nil}
 use Rattle.std.specs.Prelude.{option_map, slice_index}
 use Rattle.std.specs.Int.{cast_unsigned, w32}
 use Rattle.std.specs.List.{AllByRecursion, list_all}
@@ -17,7 +17,7 @@ use Rattle.icu_collator_types.specs.declared.elements.Element.{Element}
 use Rattle.icu_collator_core.specs.Acceptance.{CollationSource}
 use Rattle.icu_collator_core.specs.Defaults.{default_elements, special_primary}
 use Rattle.icu_collator_core.specs.ElementLists.{unpacked}
-use Rattle.icu_collator_core.specs.Elements.{Joining, Placed, Reading, at_greatest, characters_of, elements_of_list, elements_within, is_before_accent, joining, longest_prefix, match_length, placed_behind, prefix_match, reading, recorded_length, text_match, text_reading}
+use Rattle.icu_collator_core.specs.Elements.{Joining, Placed, Reading, at_greatest, characters_of, elements_of_list, elements_within, is_before_accent, joining, longest_prefix, match_length, placed_behind, reading, recorded_length, text_match, text_reading}
 use Rattle.icu_collator_core.specs.FlatNotes.{AreReadBefore}
 use Rattle.icu_collator_core.specs.Pairs.{IsClosedPair, IsComposedApart, IsPair, IsPairApart, IsPairNote, IsToldApart, noted_elements}
 use Rattle.icu_collator_core.specs.PlainWords.{IsUnprefixed}

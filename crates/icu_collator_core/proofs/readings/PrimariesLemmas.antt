@@ -1,15 +1,15 @@
 -- The primaries of characters that are read flat, and of two that are read together.
-use Rattle.std.proofs.Common.{◌≡◌, ℕ, ◌≤◌, ◌<◌, ◌==◌, false, true, cond, List, [], ◌∷◌, ◌++◌, filter_map, length, Option, Some, ◌⊎◌, ⊎_elim, inl, inr, refl, sym, ◌∙◌, ap, subst, arith, append_assoc, append-nil}
+use Rattle.std.proofs.Common.{◌≡◌, ℕ, ◌≤◌, false, true, List, [], ◌∷◌, ◌++◌, Option, Some, ◌⊎◌, ⊎_elim, inl, refl, sym, ◌∙◌, ap, subst, arith, append_assoc, append-nil}
 use Rattle.std.specs.Option.{is_some}
-use Rattle.std.specs.Prelude.{IfSome, None, slice_index}
+use Rattle.std.specs.Prelude.{IfSome, None}
 use Rattle.std.proofs.lemmas.Bool.{and_parts, false≢true}
 use Rattle.std.proofs.lemmas.List.Elements.{filter_map-append}
 use lib.Utf8.{scalar, scalars}
 use Rattle.icu_normalizer_core.specs.Canonical.{IsDecomposing}
 use Rattle.icu_collator_core.specs.Acceptance.{CollationSource}
-use Rattle.icu_collator_core.specs.FlatNotes.{IsFlat, IsPushed, MayFollow, MayStandBehind}
+use Rattle.icu_collator_core.specs.FlatNotes.{IsFlat, MayFollow, MayStandBehind}
 use Rattle.icu_collator_core.specs.FlatSteps.{primaries_in, primary_if_any, primary_in}
-use Rattle.icu_collator_core.specs.NextPrimaries.{HasPrimaries, IsPushedWith, StartsBehind, primaries_listed}
+use Rattle.icu_collator_core.specs.NextPrimaries.{HasPrimaries, IsPushedWith, StartsBehind}
 use Rattle.icu_collator_core.specs.Pools.{element_of}
 use Rattle.icu_collator_core.specs.ReadSources.{canonical_by}
 use Rattle.icu_collator_core.specs.declared.flat.primaries.NextPrimaries.{NextPrimaries}

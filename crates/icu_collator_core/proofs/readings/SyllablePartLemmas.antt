@@ -1,8 +1,7 @@
 -- The letters of a Hangul syllable, pushed one after another.
-use Rattle.std.proofs.Common.{◌≡◌, ◌≤◌, ◌-◌, ◌+◌, ◌/◌, ◌%◌, ℕ, Bool, List, [], ◌∷◌, ◌++◌, Option, Some, true, false, ap, cond, refl, subst, sym, ◌∙◌, arith}
+use Rattle.std.proofs.Common.{◌≡◌, ◌≤◌, ◌-◌, ◌+◌, ◌/◌, ◌%◌, ℕ, List, [], ◌∷◌, ◌++◌, Option, Some, true, false, ap, cond, refl, subst, sym, ◌∙◌, arith}
 use Rattle.std.specs.Char.{IsScalar}
 use Rattle.std.specs.Prelude.{IfSome, length, ◌==◌}
-use Rattle.std.proofs.lemmas.Bool.Decides.{nat_tests}
 use Rattle.icu_normalizer_core.specs.BuiltIn.{built_in_step, is_syllable}
 use Rattle.icu_normalizer_core.specs.Canonical.{Canonical, IsCanonical, IsDecomposing}
 use Rattle.icu_normalizer_core.specs.CanonicalWords.{syllable_letters}

@@ -1,14 +1,13 @@
 -- What is met at an index of the texts of a context.
-use Rattle.std.proofs.Common.{◌≡◌, ◌↔◌, ℕ, zero, suc, ℤ, ◌+◌, ◌-◌, ◌^◌, ◌<◌, ◌≤◌, Bool, true, false, cond, ◌&&◌, leb, List, [], ◌∷◌, length, get_or, slice_index, Option, Some, None, refl, ap, sym, subst, ◌∙◌, arith, ⊎_elim}
+use Rattle.std.proofs.Common.{◌≡◌, ◌↔◌, ℕ, zero, suc, ℤ, ◌+◌, ◌-◌, ◌^◌, ◌<◌, ◌≤◌, Bool, true, false, cond, ◌&&◌, leb, List, [], ◌∷◌, length, get_or, Option, Some, None, refl, ap, sym, subst, ◌∙◌, arith, ⊎_elim}
 use Rattle.std.specs.Bool.{IsTrue}
-use Rattle.std.specs.Prelude.{◌==◌, flat_map, fold}
+use Rattle.std.specs.Prelude.{◌==◌, fold}
 use Rattle.std.specs.Int.{cast_unsigned, w32}
 use Rattle.std.specs.List.{Contains, list_all}
 use Rattle.std.specs.Option.{option_map}
 use Rattle.std.proofs.lemmas.Bool.{and_from, and_parts, cases_lt, eq-eqb, eqb-true, false≢true, le-leb, leb-true}
 use Rattle.std.proofs.lemmas.List.{get_or_default}
 use Rattle.std.proofs.lemmas.Option.{none-some, same_Some}
-use Rattle.icu_char16trie.specs.Cursors.{units_of}
 use Rattle.icu_char16trie.specs.KeyFolds.{AreFolded}
 use Rattle.icu_char16trie.specs.UnitGrammar.{IsUnitTrie}
 use Rattle.icu_collator_core.specs.declared.check.walks.Reading.{Reading}
@@ -18,8 +17,8 @@ use Rattle.icu_collator_core.specs.declared.unsafe_characters.context_texts.Side
 use Rattle.icu_collator_core.specs.ContextRules.{characters_of_units}
 use Rattle.icu_collator_core.specs.KeyTexts.{read_small, read_unit}
 use Rattle.icu_collator_core.specs.Pools.{Pools, index_of, trie_of}
-use Rattle.icu_collator_core.specs.TextFolds.{count_with, has_met, met_with}
-use Rattle.icu_collator_core.specs.UnsafeWords.{ContextGives, ContextMakesUnsafe, IsKeyOf, IsLastOf, ReadingGives}
+use Rattle.icu_collator_core.specs.TextFolds.{count_with, met_with}
+use Rattle.icu_collator_core.specs.UnsafeWords.{ContextGives, ContextMakesUnsafe, IsLastOf, ReadingGives}
 use Rattle.icu_collator_core.proofs.apart.GrowthLemmas.{UpTo}
 use Rattle.icu_collator_core.proofs.checks.CheckedFoldLemmas.{short_from}
 use Rattle.icu_collator_core.proofs.checks.CheckedValueLemmas.{folded_readable}

@@ -1,6 +1,6 @@
 //! The characters that the units of keys spell.
 
-ghost use Rattle.std.specs.Prelude.{◌≡◌, ◌<◌, ◌≤◌, ◌&&◌, true, false, MatchOption};
+ghost use Rattle.std.specs.Prelude.{◌≡◌, ◌<◌, ◌&&◌, true, false, MatchOption};
 ghost use Rattle.icu_normalizer_core.specs.BuiltIn.{is_within};
 ghost use Rattle.icu_collator_core.specs.ContextRules.{is_upper_half, is_lower_half, joined_halves};
 

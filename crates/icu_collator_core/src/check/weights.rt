@@ -1,6 +1,6 @@
 //! Words of characters that spell what breaks a rule on weights.
 
-ghost use Rattle.std.specs.Prelude.{◌≡◌, ◌↔◌, IsTrue, IfOk, MatchOption};
+ghost use Rattle.std.specs.Prelude.{◌↔◌, IsTrue, IfOk, MatchOption};
 ghost use Rattle.icu_collator_types.specs.ElementWords.{has_tag};
 ghost use Rattle.icu_collator_core.specs.Pools.{lone_word, unprefixed_word};
 ghost use Rattle.icu_collator_core.specs.TableFaults.{AllPassIn, IsFirstRefused};

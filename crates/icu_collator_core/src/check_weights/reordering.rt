@@ -1,6 +1,6 @@
 //! Whether what primaries stand in the place of others keeps them apart.
 
-ghost use Rattle.std.specs.Prelude.{◌≡◌, ◌↔◌, ◌+◌, ◌*◌, ◌/◌, ◌^◌, ◌<◌, IsTrue};
+ghost use Rattle.std.specs.Prelude.{◌≡◌, ◌↔◌, ◌+◌, ◌*◌, ◌^◌, ◌<◌, IsTrue};
 ghost use Rattle.icu_collator_core.specs.ReorderingTests.{AreAllApart, AreAlikeCompressible, AreApartUnder, AreSteadyHalves, compressible_bit, is_steady_half, new_lead};
 ghost use Rattle.icu_collator_core.specs.WeightFaults.{HasSoundReordering, IsSoundReordering};
 

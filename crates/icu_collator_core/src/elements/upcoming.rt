@@ -1,6 +1,6 @@
 //! What is to be read of a text: characters that were put before, then those of an iterator.
 
-ghost use Rattle.std.specs.Prelude.{◌≡◌, ◌∷◌, ◌<◌, ◌≤◌, ℕ, List, [], OnErr, OnOk, OnSome};
+ghost use Rattle.std.specs.Prelude.{◌∷◌, ◌<◌, ◌≤◌, ℕ, List, [], OnErr, OnOk, OnSome};
 ghost use Rattle.std.specs.Iterator.{at_most, IsFinite};
 ghost use Rattle.icu_normalizer_core.specs.Iter.{Spells};
 

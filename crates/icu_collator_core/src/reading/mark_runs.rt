@@ -2,20 +2,18 @@
 //! its class, so that nothing is moved, and marks that can't join are passed over a class at a time.
 
 ghost use Rattle.std.specs.Prelude.{◌≡◌, ◌+◌, ◌<◌, ◌≤◌, ◌∷◌, ◌++◌, ◌==◌, ◌&&◌, ℕ, List, [], Option, OnOk, IfOk, IfSome, IsTrue, MatchOption, drop, false, is_some, length, not, slice_index, slice_index_or, slice_set, take, true};
-ghost use lib.Utf8.{scalar, scalars};
+ghost use lib.Utf8.{scalars};
 ghost use Rattle.icu_char16trie.specs.Cursors.{trie_units};
 ghost use Rattle.icu_normalizer_core.specs.BorrowedMeaning.{borrowed_meaning};
-ghost use Rattle.icu_normalizer_core.specs.Canonical.{Canonical};
-ghost use Rattle.icu_collator_core.specs.ElementLists.{AddsElements, unpacked};
+ghost use Rattle.icu_collator_core.specs.ElementLists.{unpacked};
 ghost use Rattle.icu_collator_core.specs.Elements.{Placed, characters_of, is_before_accent, placed, reading};
 ghost use Rattle.icu_collator_core.specs.JoinedTexts.{has_suffixes};
 ghost use Rattle.icu_collator_core.specs.MarkRuns.{HasJoinedClass, HasLeft, HasMetClass, HasReadFirst, HavePushed, are_of_class, are_of_classes, ends_run, is_class_of_marks, marks_left};
 ghost use Rattle.icu_collator_core.specs.ReadSources.{canonical_by, weights_by};
 ghost use Rattle.icu_collator_core.specs.ReadSteps.{IsRead};
 ghost use Rattle.icu_collator_core.specs.ReadTexts.{suffix_units};
-ghost use Rattle.icu_collator_core.specs.ReadWords.{AreSaidBy, table_word};
+ghost use Rattle.icu_collator_core.specs.ReadWords.{table_word};
 ghost use Rattle.icu_collator_core.specs.TableSettings.{has_bit};
-ghost use Rattle.icu_collator_core.specs.Weights.{Weights};
 
 use super::accents::{is_accent, is_accent_at};
 use super::checked_words::checked_word;

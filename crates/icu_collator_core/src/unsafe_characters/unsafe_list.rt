@@ -1,6 +1,6 @@
 //! The list of the characters that are unsafe by what is recorded.
 
-ghost use Rattle.std.specs.Prelude.{◌↔◌, [], IsTrue, IfOk, OnOk};
+ghost use Rattle.std.specs.Prelude.{◌↔◌, IsTrue, IfOk};
 ghost use Rattle.std.specs.List.{Contains};
 ghost use Rattle.std.specs.List.Sorted.{IsStrictlyIncreasing};
 ghost use Rattle.icu_normalizer_core.specs.BorrowedMeaning.{borrowed_meaning};

@@ -1,6 +1,6 @@
 //! The characters that any word that counts makes unsafe.
 
-ghost use Rattle.std.specs.Prelude.{◌≡◌, ◌<◌, ◌≤◌, ℕ, IsTrue, OnOk, false};
+ghost use Rattle.std.specs.Prelude.{◌≡◌, ◌<◌, ◌≤◌, ℕ, OnOk, false};
 ghost use Rattle.icu_normalizer_core.specs.BorrowedMeaning.{borrowed_meaning};
 ghost use Rattle.icu_collator_core.specs.TableMeaning.{word_at};
 ghost use Rattle.icu_collator_core.specs.UnsafeWords.{IsUnsafeIn, IsUnsafeInTailoring, MakesUnsafeIn, names_context};

@@ -1,5 +1,5 @@
 -- Normal forms of texts in UTF-8: read back, they are the lists that were written.
-use Rattle.std.proofs.Common.{◌≡◌, ℕ, true, ◌&&◌, List, [], ◌∷◌, chars, encode_utf8_all, IsUtf8, refl, sym, ap, ◌∙◌}
+use Rattle.std.proofs.Common.{◌≡◌, ℕ, true, List, [], ◌∷◌, chars, encode_utf8_all, IsUtf8, sym, ap, ◌∙◌}
 use Rattle.std.specs.Prelude.{◌↔◌, All}
 use Rattle.std.specs.Char.{IsScalar}
 use Rattle.std.proofs.lemmas.Bool.{and_parts}

@@ -10,7 +10,7 @@ ghost use Rattle.icu_normalizer_core.specs.Readable.{IsReadable};
 ghost use Rattle.icu_normalizer.specs.Composing.{IsComposable};
 ghost use Rattle.icu_normalizer.specs.FormNotes.{AreLow};
 ghost use Rattle.icu_normalizer.specs.Sinks.{AddsPrefix, EndsByFailure};
-ghost use Rattle.icu_normalizer.specs.Texts.{IsAtEnd, IsUndamaged};
+ghost use Rattle.icu_normalizer.specs.Texts.{IsAtEnd};
 ghost use Rattle.icu_normalizer.specs.Writer.{AddsFront};
 
 mod encodings;

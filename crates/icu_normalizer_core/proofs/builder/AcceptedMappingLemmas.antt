@@ -8,7 +8,7 @@ use Rattle.std.proofs.lemmas.Bool.{cases_Bool, eqb-true, and_parts, or_parts, fa
 use Rattle.std.proofs.lemmas.List.Elements.{All-cons, All-nil, All-contains}
 use Rattle.std.proofs.lemmas.Option.{none-some, same_Some}
 use Rattle.std.proofs.lemmas.Slice.Eq.{bytes_eq-Decides}
-use Rattle.icu_normalizer_core.specs.declared.canonical.builder.GivenMapping.{GivenMapping}
+use Rattle.icu_normalizer_core.specs.declared.builder.given.GivenMapping.{GivenMapping}
 use Rattle.icu_normalizer_core.specs.BuiltIn.{built_in_step, is_jamo, is_syllable, is_within}
 use Rattle.icu_normalizer_core.specs.BuiltMaps.{AreBuiltOf}
 use Rattle.icu_normalizer_core.specs.Canonical.{IsFree}

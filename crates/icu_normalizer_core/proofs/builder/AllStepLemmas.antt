@@ -6,7 +6,7 @@ use Rattle.std.specs.Option.{is_some, unwrap_or, IfSome}
 use Rattle.std.proofs.lemmas.Bool.{cases_Bool, cond-true, cond-false, eqb-true}
 use Rattle.std.proofs.lemmas.List.Elements.{All-append, All-cons, All-head, All-nil, All-tail}
 use Rattle.std.proofs.lemmas.Option.{none-some, same_Some}
-use Rattle.icu_normalizer_core.specs.declared.canonical.builder.GivenCompatibility.{GivenCompatibility}
+use Rattle.icu_normalizer_core.specs.declared.builder.given.GivenCompatibility.{GivenCompatibility}
 use Rattle.icu_normalizer_core.specs.BuiltIn.{built_in_class, built_in_compatibility_step, built_in_step, singled_out, is_built_in}
 use Rattle.icu_normalizer_core.specs.Canonical.{Canonical, IsDecomposing, IsFree, Leaves, nothing, unmapped, mapped}
 use Rattle.icu_normalizer_core.specs.CompatibilityMaps.{all_steps, compatibility_step, else_mapped, first_given, given_compatibility}

@@ -5,8 +5,8 @@ use Rattle.std.specs.Option.{unwrap_or, IsSomeAnd}
 use Rattle.icu_codepointtrie.specs.BuiltTries.{IsTrieOf}
 use Rattle.icu_codepointtrie.specs.CodePointMaps.{CodePointMap, mapped}
 use Rattle.icu_codepointtrie.specs.Slots.{TrieTables, value_at}
-use Rattle.icu_normalizer_core.specs.declared.canonical.builder.GivenClass.{GivenClass}
-use Rattle.icu_normalizer_core.specs.declared.canonical.builder.GivenMapping.{GivenMapping}
+use Rattle.icu_normalizer_core.specs.declared.builder.given.GivenClass.{GivenClass}
+use Rattle.icu_normalizer_core.specs.declared.builder.given.GivenMapping.{GivenMapping}
 use Rattle.icu_normalizer_core.specs.declared.canonical.tables.CanonicalTables.{CanonicalTables}
 use Rattle.icu_normalizer_core.specs.declared.canonical.tables.CanonicalFault.{CanonicalFault}
 use Rattle.icu_normalizer_core.specs.declared.canonical.tables.CanonicalFault.TheVariants.{BadValue, BadList, Loop, BuiltIn, BadPair}

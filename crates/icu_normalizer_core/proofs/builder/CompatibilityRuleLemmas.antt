@@ -7,8 +7,8 @@ use lib.Utf8.{low_scalar}
 use Rattle.std.proofs.lemmas.Bool.{and_from, cases_lt, eq-eqb, eqb-true, false≢true}
 use Rattle.std.proofs.lemmas.List.Elements.{All-contains, All-cons, All-head, All-nil, All-tail}
 use Rattle.std.proofs.lemmas.Option.{same_Some}
-use Rattle.icu_normalizer_core.specs.declared.canonical.builder.GivenMapping.{GivenMapping}
-use Rattle.icu_normalizer_core.specs.declared.canonical.builder.mappings.Mappings.{Mappings}
+use Rattle.icu_normalizer_core.specs.declared.builder.given.GivenMapping.{GivenMapping}
+use Rattle.icu_normalizer_core.specs.declared.builder.mappings.Mappings.{Mappings}
 use Rattle.icu_normalizer_core.specs.BuiltIn.{built_in_compatibility_step, built_in_step, is_built_in}
 use Rattle.icu_normalizer_core.specs.Canonical.{Canonical, Leaves, nothing}
 use Rattle.icu_normalizer_core.specs.CanonicalFaults.{NoneOffends, begins_with_mark}

@@ -4,7 +4,7 @@ use Rattle.std.specs.Prelude.{option_map}
 use Rattle.std.specs.BTreeMap.{BTreeMap, get}
 use Rattle.std.specs.Option.{option_or, unwrap_or}
 use Rattle.std.specs.Ordering.{nat_cmp}
-use Rattle.icu_normalizer_core.specs.declared.canonical.builder.GivenClass.{GivenClass}
+use Rattle.icu_normalizer_core.specs.declared.builder.given.GivenClass.{GivenClass}
 use Rattle.icu_normalizer_core.specs.CanonicalMaps.{first_class, given_class}
 use Rattle.icu_normalizer_core.specs.FirstClasses.{HasFirstClasses}
 use Rattle.icu_normalizer_core.proofs.builder.FirstMappingLemmas.{find_more}

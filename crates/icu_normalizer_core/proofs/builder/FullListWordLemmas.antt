@@ -5,7 +5,7 @@ use Rattle.std.specs.Char.{IsScalar}
 use Rattle.std.proofs.lemmas.List.{append-nil}
 use Rattle.std.proofs.lemmas.List.Elements.{All-cons, All-nil, All-head, All-tail}
 use Rattle.icu_normalizer_core.specs.declared.canonical.check.left.Left.{Left}
-use Rattle.icu_normalizer_core.specs.declared.canonical.builder.list_words.ListWords.{ListWords}
+use Rattle.icu_normalizer_core.specs.declared.builder.list_words.ListWords.{ListWords}
 use Rattle.icu_normalizer_core.specs.BuiltIn.{built_in_step}
 use Rattle.icu_normalizer_core.specs.Canonical.{Leaves, unmapped, mapped, IsFree}
 use Rattle.icu_normalizer_core.specs.CanonicalLists.{AreTriples, step_in}

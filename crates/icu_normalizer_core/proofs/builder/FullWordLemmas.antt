@@ -5,7 +5,7 @@ use Rattle.std.specs.Option.{IfSome, is_some, unwrap_or}
 use Rattle.std.specs.Char.{IsScalar}
 use Rattle.std.proofs.lemmas.Bool.{cases_eq}
 use Rattle.std.proofs.lemmas.List.Elements.{All-cons, All-nil}
-use Rattle.icu_normalizer_core.specs.declared.canonical.builder.mappings.Mappings.{Mappings}
+use Rattle.icu_normalizer_core.specs.declared.builder.mappings.Mappings.{Mappings}
 use Rattle.icu_normalizer_core.specs.declared.canonical.check.left.Left.{Left}
 use Rattle.icu_normalizer_core.specs.BuiltIn.{built_in_class, built_in_step}
 use Rattle.icu_normalizer_core.specs.Canonical.{Canonical, IsFree, Leaves}

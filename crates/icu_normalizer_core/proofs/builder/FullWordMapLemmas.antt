@@ -10,7 +10,7 @@ use Rattle.icu_codepointtrie.specs.Slots.{value_at}
 use Rattle.icu_normalizer_core.specs.declared.compatibility.tables.NfkdTables.{NfkdTables}
 use Rattle.icu_normalizer_core.specs.CanonicalWords.{plain_word}
 use Rattle.icu_normalizer_core.specs.CompatibilityMeaning.{nfkd_lists}
-use Rattle.icu_normalizer_core.specs.declared.canonical.builder.mappings.Mappings.{Mappings}
+use Rattle.icu_normalizer_core.specs.declared.builder.mappings.Mappings.{Mappings}
 use Rattle.icu_normalizer_core.specs.declared.canonical.check.left.Left.{Left}
 use Rattle.icu_normalizer_core.specs.BuiltIn.{is_syllable}
 use Rattle.icu_normalizer_core.specs.BuiltMaps.{HasPlainWords}

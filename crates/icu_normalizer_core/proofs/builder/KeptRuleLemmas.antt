@@ -5,7 +5,7 @@ use Rattle.std.specs.List.{All}
 use Rattle.std.specs.Option.{is_some, unwrap_or}
 use Rattle.std.proofs.lemmas.List.Elements.{All-cons, All-nil}
 use Rattle.std.proofs.lemmas.List.Sums.{sum_by-le-sum_by}
-use Rattle.icu_normalizer_core.specs.declared.canonical.builder.GivenClass.{GivenClass}
+use Rattle.icu_normalizer_core.specs.declared.builder.given.GivenClass.{GivenClass}
 use Rattle.icu_normalizer_core.specs.BuiltIn.{built_in_class, built_in_step}
 use Rattle.icu_normalizer_core.specs.CanonicalLists.{AreTriples, listed_step, step_in}
 use Rattle.icu_normalizer_core.specs.CanonicalMaps.{CanonicalMaps, KeepCanonicalRules, IsMapped, first_class, given_class, named, step_of, given_step}

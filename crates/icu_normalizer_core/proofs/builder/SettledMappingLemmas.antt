@@ -8,7 +8,7 @@ use Rattle.std.proofs.lemmas.Grind.{flat_map-append}
 use Rattle.std.proofs.lemmas.List.{append-nil}
 use Rattle.std.proofs.lemmas.List.Elements.{All-append, All-head, All-tail}
 use Rattle.std.proofs.lemmas.Option.{same_Some}
-use Rattle.icu_normalizer_core.specs.declared.canonical.builder.GivenCompatibility.{GivenCompatibility}
+use Rattle.icu_normalizer_core.specs.declared.builder.given.GivenCompatibility.{GivenCompatibility}
 use Rattle.icu_normalizer_core.specs.declared.canonical.check.left.Left.{Left}
 use Rattle.icu_normalizer_core.specs.BuiltIn.{built_in_compatibility_step}
 use Rattle.icu_normalizer_core.specs.Canonical.{Canonical, IsDecomposing, IsFree, Leaves, nothing, unmapped, mapped}

@@ -6,10 +6,10 @@ use Rattle.std.specs.Char.{IsScalar}
 use Rattle.std.proofs.lemmas.Bool.{cases_Bool, cond-true, cond-false, false≢true, ne_eqb}
 use Rattle.std.proofs.lemmas.Bool.Decides.{nat_tests}
 use Rattle.std.proofs.lemmas.Option.{none-some}
-use Rattle.icu_normalizer_core.specs.declared.canonical.builder.GivenClass.{GivenClass}
-use Rattle.icu_normalizer_core.specs.declared.canonical.builder.GivenCompatibility.{GivenCompatibility}
-use Rattle.icu_normalizer_core.specs.declared.canonical.builder.GivenMapping.{GivenMapping}
-use Rattle.icu_normalizer_core.specs.declared.canonical.builder.mappings.Mappings.{Mappings}
+use Rattle.icu_normalizer_core.specs.declared.builder.given.GivenClass.{GivenClass}
+use Rattle.icu_normalizer_core.specs.declared.builder.given.GivenCompatibility.{GivenCompatibility}
+use Rattle.icu_normalizer_core.specs.declared.builder.given.GivenMapping.{GivenMapping}
+use Rattle.icu_normalizer_core.specs.declared.builder.mappings.Mappings.{Mappings}
 use Rattle.icu_normalizer_core.specs.BuiltIn.{built_in_class, built_in_compatibility_step, built_in_step, is_syllable}
 use Rattle.icu_normalizer_core.specs.Canonical.{Canonical, IsFree, Leaves}
 use Rattle.icu_normalizer_core.specs.CanonicalMaps.{AreMeaning, given_class, given_step, mapping_given}

@@ -1,7 +1,7 @@
 -- The steps of an iterator of decomposed text.
 use Rattle.std.proofs.Common.{◌≡◌, ℕ, ◌<◌, true, false, List, [], ◌∷◌, ◌++◌, flat_map, Option, Some, None, refl, sym, ap, subst, ◌∙◌}
 use Rattle.icu_normalizer_core.specs.Canonical.{Canonical, marks_in_order, decomposed}
-use Rattle.icu_normalizer_core.specs.declared.decomposition.Decomposition.{Decomposition}
+use Rattle.icu_normalizer_core.specs.declared.decomposition.characters.Decomposition.{Decomposition}
 use Rattle.icu_normalizer_core.specs.Decompositions.{canonical_by_run, DecomposesTo}
 use Rattle.icu_normalizer_core.specs.Iter.{Spells, SourceSpells, KeepsLeft}
 use Rattle.icu_normalizer_core.specs.Run.{reordered, held, KeepsOutput}

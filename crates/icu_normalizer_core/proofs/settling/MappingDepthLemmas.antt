@@ -2,7 +2,7 @@
 use Rattle.std.proofs.Common.{◌≡◌, ℕ, ◌<◌, List, [], ◌∷◌, ◌++◌, length, set, slice_get, Bool, true, false, Option, Some, ◌∙◌, arith}
 use Rattle.std.specs.List.{All}
 use Rattle.std.proofs.lemmas.List.Elements.{All-push, All-pop}
-use Rattle.icu_normalizer_core.specs.declared.canonical.builder.GivenCompatibility.{GivenCompatibility}
+use Rattle.icu_normalizer_core.specs.declared.builder.given.GivenCompatibility.{GivenCompatibility}
 use Rattle.icu_normalizer_core.specs.declared.canonical.check.left.Left.{Left}
 use Rattle.icu_normalizer_core.specs.SettledMappings.{AreMappingStarts}
 use Rattle.icu_normalizer_core.proofs.settling.SettlingLemmas.{got_inside, written_length}

@@ -1,13 +1,9 @@
-//! Canonical data, borrowed: what they say of each character, and of characters one after another. No call here but
-//! `classed` takes memory.
+//! Canonical data, borrowed: what they say of each character. No call here takes memory.
 
-ghost use Rattle.std.specs.Prelude.{◌≡◌, ◌≢◌, ℕ, ◌*◌, List, [], IfSome, IfNone, IsTrue};
-ghost use Rattle.std.specs.Iterator.{IsFinite, size};
+ghost use Rattle.std.specs.Prelude.{◌≡◌, ◌≢◌, [], IfSome, IfNone, IsTrue};
 ghost use Rattle.icu_normalizer_core.specs.Boundaries.{IsSteady};
-ghost use Rattle.icu_normalizer_core.specs.Canonical.{decomposed, is_starter, IsCanonical};
-ghost use Rattle.icu_normalizer_core.specs.Classes.{with_classes, ClassesTo, CanClass, classed_size};
-ghost use Rattle.icu_normalizer_core.specs.Iter.{Spells};
-ghost use Rattle.icu_normalizer_core.specs.BorrowedMeaning.{borrowed_meaning};
+ghost use Rattle.icu_normalizer_core.specs.Canonical.{is_starter, IsCanonical};
+ghost use Rattle.icu_normalizer_core.specs.BorrowedMeaning.{borrowed_meaning, borrowed_tables};
 ghost use Rattle.icu_normalizer_core.specs.Properties.{mapped_to};
 ghost use Rattle.icu_normalizer_core.specs.Readings.{IsTold};
 ghost use Rattle.icu_normalizer_core.specs.declared.decomposed.Decomposed.TheVariants.{Default};
@@ -19,13 +15,22 @@ use super::pairs::listed_pair;
 use super::steps::listed_step;
 use crate::built_in::{built_in_step, syllable_of};
 use crate::decomposed::Decomposed;
-use crate::decomposition::Classed;
-use std::alloc::Global;
 
 /// Canonical data, borrowed.
 #[derive(Clone, Copy, Debug)]
 pub struct CanonicalBorrowed<'d> {
     pub(super) checked: &'d CanonicalData<'d>,
+}
+
+impl CanonicalData<'_> {
+    /// The data, borrowed.
+    pub fn as_borrowed(&self) -> CanonicalBorrowed<'_>
+        ensures same { borrowed_tables result ≡ self.now }
+        ensures canonical { IsCanonical (borrowed_meaning result) }
+    {
+        let _tables = self.tables();
+        CanonicalBorrowed { checked: self }
+    }
 }
 
 impl<'d> CanonicalBorrowed<'d> {
@@ -114,19 +119,5 @@ impl<'d> CanonicalBorrowed<'d> {
         ensures { result ≡ (borrowed_meaning self.now).full c }
     {
         full_list(self.checked.tables(), c)
-    }
-
-    /// The decomposed list of the characters that `chars` gives (NFD, UAX 15), each with its canonical combining class.
-    #[inline]
-    pub fn classed<I: Iterator<Item = char> + Drop>(
-        &self,
-        alloc: Global,
-        chars: I,
-    ) -> Classed<'d, I>
-        ensures text { (cs : List ℕ) → Spells I.next_gives chars cs → ClassesTo I.next_gives result (with_classes (borrowed_meaning self.now) (decomposed (borrowed_meaning self.now) cs)) }
-        ensures ready { I.can_next chars → IsFinite (I.remaining chars) → CanClass I.can_next I.remaining result }
-        ensures size { classed_size I.remaining result ≡ 8 * size (I.remaining chars) }
-    {
-        Classed::new(alloc, *self, chars)
     }
 }

@@ -15,7 +15,7 @@ mod loops;
 mod marks;
 mod own;
 mod pairs;
-pub(super) mod settle;
+pub(crate) mod settle;
 pub(super) mod steady;
 pub(crate) mod told;
 mod values;
@@ -32,7 +32,7 @@ use values::first_bad_value;
 
 /// What the tables are to be refused for, `None` where they pass every check; `told` is a list of the code points of
 /// which they say something (`told::told`). Fails only if memory is refused.
-pub(super) fn first_fault(
+pub(crate) fn first_fault(
     alloc: Global,
     tables: &CanonicalTables<'_>,
     told: &[u32],

@@ -1,15 +1,12 @@
 //! Canonical data: tables that were checked.
 
 ghost use Rattle.std.specs.Prelude.{◌≡◌, MatchResult, IfOk, IsTrue};
-ghost use Rattle.icu_normalizer_core.specs.BorrowedMeaning.{borrowed_tables, borrowed_meaning};
 ghost use Rattle.icu_normalizer_core.specs.Boundaries.{IsSteady};
-ghost use Rattle.icu_normalizer_core.specs.Canonical.{IsCanonical};
 ghost use Rattle.icu_normalizer_core.specs.CanonicalFaults.{IsAccepted};
 ghost use Rattle.icu_normalizer_core.specs.CanonicalMeaning.{lists_of, meaning};
 ghost use Rattle.icu_normalizer_core.specs.CanonicalRefusals.{IsRefusal};
 ghost use Rattle.icu_normalizer_core.specs.Plain.{Tells};
 
-use super::borrowed::CanonicalBorrowed;
 use super::check::first_fault;
 use super::check::steady::steady_characters;
 use super::check::told::told;
@@ -102,15 +99,6 @@ impl<'a> CanonicalData<'a> {
     {
         let steady = steady_characters(alloc, &tables, told)?;
         Ok(CanonicalData { tables, steady })
-    }
-
-    /// The data, borrowed.
-    pub fn as_borrowed(&self) -> CanonicalBorrowed<'_>
-        ensures same { borrowed_tables result ≡ self.now }
-        ensures canonical { IsCanonical (borrowed_meaning result) }
-    {
-        let _tables = self.tables();
-        CanonicalBorrowed { checked: self }
     }
 
     /// The tables.

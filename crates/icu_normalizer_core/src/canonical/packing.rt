@@ -1,7 +1,7 @@
 //! Numbers that code points are packed into, with 21 bits for each.
 
 /// Code points are below it: `packed % CODE_LIMIT` is the last one of a packed number.
-pub(super) const CODE_LIMIT: u64 = 0x20_0000;
+pub(crate) const CODE_LIMIT: u64 = 0x20_0000;
 
 /// Two packed code points are below it: `packed / TWO_CODES_LIMIT` is what stands before the last two.
-pub(super) const TWO_CODES_LIMIT: u64 = 0x400_0000_0000;
+pub(crate) const TWO_CODES_LIMIT: u64 = 0x400_0000_0000;

@@ -1,7 +1,6 @@
 //! The composed pairs of tables: numbers in rising order.
 
 ghost use Rattle.std.specs.Prelude.{◌≡◌, ◌/◌, ◌<◌, ◌^◌, ◌↔◌, IsTrue, length, slice_index};
-ghost use Rattle.std.specs.Char.{IsScalar};
 ghost use Rattle.icu_normalizer_core.specs.CanonicalLists.{ArePairs, listed_pair};
 
 use super::packing::CODE_LIMIT;

@@ -1,6 +1,6 @@
 //! The mappings of tables: triples of numbers in rising order.
 
-ghost use Rattle.std.specs.Prelude.{◌≡◌, ◌≢◌, ℕ, ◌+◌, ◌*◌, ◌^◌, ◌<◌, ◌↔◌, IsTrue, length, slice_index, MatchOption, IfSome};
+ghost use Rattle.std.specs.Prelude.{◌≡◌, ◌+◌, ◌*◌, ◌^◌, ◌<◌, ◌↔◌, IsTrue, length, slice_index, MatchOption, IfSome};
 ghost use Rattle.icu_normalizer_core.specs.CanonicalLists.{AreTriples, listed_step, mapping};
 ghost use Rattle.icu_normalizer_core.specs.Triples.{IsUnlisted, IsTripleOf};
 ghost use Rattle.icu_normalizer_core.specs.Properties.{mapped_to};
@@ -10,10 +10,10 @@ use crate::decomposed::Decomposed;
 use icu_packed_vector::PackedVec;
 
 /// In the place of the second character of a mapping that has but one.
-pub(super) const NO_SECOND: u32 = 0x11_0000;
+pub(crate) const NO_SECOND: u32 = 0x11_0000;
 
 /// The triple of a character among so many.
-pub(super) fn triple_of(steps: &PackedVec<'_, u32>, c: u32) -> Option<usize>
+pub(crate) fn triple_of(steps: &PackedVec<'_, u32>, c: u32) -> Option<usize>
     requires { AreTriples steps.now }
     ensures index { MatchOption result (IsUnlisted steps.now c) (IsTripleOf steps.now c) }
     ensures fits { IfSome result (λ index. 3 * index + 2 < 2 ^ 64) }

@@ -17,6 +17,15 @@ pub struct CompatibilityBorrowed<'d> {
     pub(super) checked: &'d CompatibilityData<'d>,
 }
 
+impl CompatibilityData<'_> {
+    /// The data, borrowed.
+    pub fn as_borrowed(&self) -> CompatibilityBorrowed<'_>
+        ensures { compatibility_tables result ≡ self.now }
+    {
+        CompatibilityBorrowed { checked: self }
+    }
+}
+
 impl<'d> CompatibilityBorrowed<'d> {
     /// Checked data keep what compatibility data promise (UAX 15): their full lists fit to canonical data, and to
     /// what is built in.

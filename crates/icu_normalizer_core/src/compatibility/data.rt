@@ -2,13 +2,11 @@
 
 ghost use Rattle.std.specs.Prelude.{◌≡◌, MatchResult, IsTrue};
 ghost use Rattle.icu_normalizer_core.specs.Boundaries.{IsSteady};
-ghost use Rattle.icu_normalizer_core.specs.BorrowedCompatibility.{compatibility_tables};
 ghost use Rattle.icu_normalizer_core.specs.CanonicalFaults.{IsAccepted};
 ghost use Rattle.icu_normalizer_core.specs.CanonicalMeaning.{lists_of};
 ghost use Rattle.icu_normalizer_core.specs.CompatibilityFaults.{AreAcceptedWords};
 ghost use Rattle.icu_normalizer_core.specs.CompatibilityMeaning.{compatibility_meaning, nfkd_lists, IsWordRefusal};
 
-use super::borrowed::CompatibilityBorrowed;
 use super::check::first_fault;
 use super::check::steady::steady_characters;
 use super::tables::NfkdTables;
@@ -77,13 +75,6 @@ impl<'a> CompatibilityData<'a> {
             }
             Some(fault) => Err(CanonicalDataError::Fault(fault)),
         }
-    }
-
-    /// The data, borrowed.
-    pub fn as_borrowed(&self) -> CompatibilityBorrowed<'_>
-        ensures { compatibility_tables result ≡ self.now }
-    {
-        CompatibilityBorrowed { checked: self }
     }
 
     /// The canonical data.

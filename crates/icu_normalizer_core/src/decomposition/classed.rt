@@ -6,7 +6,7 @@ ghost use Rattle.icu_normalizer_core.specs.BorrowedMeaning.{borrowed_meaning};
 ghost use Rattle.icu_normalizer_core.specs.Canonical.{decomposed};
 ghost use Rattle.icu_normalizer_core.specs.Iter.{Spells};
 
-use super::Decomposition;
+use super::characters::Decomposition;
 use crate::canonical::CanonicalBorrowed;
 use std::alloc::{AllocError, Global};
 use std::iter::FusedIterator;
@@ -58,3 +58,21 @@ impl<I: Iterator<Item = char> + Drop> Iterator for Classed<'_, I> {
 }
 
 impl<I: Iterator<Item = char> + Drop> FusedIterator for Classed<'_, I> {}
+
+impl<'d> CanonicalBorrowed<'d> {
+    ghost use Rattle.icu_normalizer_core.specs.Classes.{with_classes, ClassesTo, CanClass, classed_size};
+
+    /// The decomposed list of the characters that `chars` gives (NFD, UAX 15), each with its canonical combining class.
+    #[inline]
+    pub fn classed<I: Iterator<Item = char> + Drop>(
+        &self,
+        alloc: Global,
+        chars: I,
+    ) -> Classed<'d, I>
+        ensures text { (cs : List ℕ) → Spells I.next_gives chars cs → ClassesTo I.next_gives result (with_classes (borrowed_meaning self.now) (decomposed (borrowed_meaning self.now) cs)) }
+        ensures ready { I.can_next chars → IsFinite (I.remaining chars) → CanClass I.can_next I.remaining result }
+        ensures size { classed_size I.remaining result ≡ 8 * size (I.remaining chars) }
+    {
+        Classed::new(alloc, *self, chars)
+    }
+}

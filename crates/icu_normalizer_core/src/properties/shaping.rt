@@ -3,10 +3,10 @@
 ghost use Rattle.std.specs.Prelude.{◌≡◌};
 ghost use Rattle.icu_normalizer_core.specs.PropertyMeanings.{class_map_data, composition_data, decomposition_data, shaped};
 
-use super::{
-    CanonicalCombiningClassMapBorrowed, CanonicalCompositionBorrowed,
-    CanonicalDecompositionBorrowed, Decomposed,
-};
+use super::classes::CanonicalCombiningClassMapBorrowed;
+use super::composition::CanonicalCompositionBorrowed;
+use super::decomposition::CanonicalDecompositionBorrowed;
+use crate::decomposed::Decomposed;
 
 /// The canonical combining class of a character; a starter has 0 (UAX 15).
 #[inline]

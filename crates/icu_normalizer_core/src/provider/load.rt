@@ -4,7 +4,9 @@ ghost use Rattle.std.specs.Prelude.{Ok};
 ghost use Rattle.icu_normalizer_core.specs.CompatibilityLoading.{loaded_words, loaded_both, BothCheckedMemoryAside};
 ghost use Rattle.icu_normalizer_core.specs.Loading.{MemoryAside, CheckedMemoryAside, loaded};
 
-use super::{DataError, NfdLists, NfkdLists, NormalizerProvider};
+use super::error::DataError;
+use super::normalizer_provider::NormalizerProvider;
+use super::provider_lists::{NfdLists, NfkdLists};
 use crate::canonical::{CanonicalData, CanonicalTables};
 use crate::compatibility::{CompatibilityData, NfkdTables};
 use std::alloc::Global;

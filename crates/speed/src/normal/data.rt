@@ -3,7 +3,7 @@
 //! anything; with no such line these are valid.
 
 use icu_codepointtrie::{CodePointTrieBuilder, TrieType};
-use icu_normalizer_core::canonical::CanonicalDataBuilder;
+use icu_normalizer_core::builder::CanonicalDataBuilder;
 use icu_normalizer_core::provider::Uts46Tables;
 use icu_packed_vector::PackedVec;
 use samples_icu_normalizer::held::{Held, provider_of};

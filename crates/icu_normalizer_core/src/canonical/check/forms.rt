@@ -1,6 +1,6 @@
 //! Whether mappings are triples and pairs are pairs, in rising order.
 
-ghost use Rattle.std.specs.Prelude.{◌≡◌, ◌+◌, ◌-◌, ◌*◌, ◌/◌, ◌^◌, ◌<◌, ◌↔◌, IsTrue, length};
+ghost use Rattle.std.specs.Prelude.{◌+◌, ◌-◌, ◌*◌, ◌/◌, ◌^◌, ◌<◌, ◌↔◌, IsTrue, length};
 ghost use Rattle.std.specs.Char.{IsScalar};
 ghost use Rattle.icu_normalizer_core.specs.CanonicalLists.{AreTriples, ArePairs};
 ghost use Rattle.icu_normalizer_core.specs.Triples.{IsTripleAt, IsPairAt};

@@ -1,7 +1,7 @@
 //! Whether a full list stands inside the tables, is short enough, has no item that is mapped or no character, begins
 //! with no mark, and is the lists of what canonical mappings leave.
 
-ghost use Rattle.std.specs.Prelude.{◌≡◌, ◌↔◌, true, false, IsTrue, All, List, take, flat_map};
+ghost use Rattle.std.specs.Prelude.{◌≡◌, ◌↔◌, true, false, IsTrue, All, take, flat_map};
 ghost use Rattle.std.specs.Char.{IsScalar};
 ghost use Rattle.icu_normalizer_core.specs.CanonicalFaults.{begins_with_mark};
 ghost use Rattle.icu_normalizer_core.specs.CanonicalWords.{states_list};

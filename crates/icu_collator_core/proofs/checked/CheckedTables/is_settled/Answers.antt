@@ -1,4 +1,4 @@
-use Rattle.std.proofs.Common.{◌≡◌, ◌<◌, ℕ, List, arith, rules, subst, sym}
+use Rattle.std.proofs.Common.{◌<◌, arith, rules, subst, sym}
 use Rattle.icu_normalizer_core.specs.Canonical.{IsDecomposing}
 use Rattle.icu_collator_core.specs.FlatSteps.{IsNextPrimary, IsSettled}
 use Rattle.icu_collator_core.specs.ReadSources.{canonical_by}

@@ -1,4 +1,4 @@
-use Rattle.std.proofs.Common.{◌≡◌, ◌<◌, ◌≤◌, ℕ, List, arith, false, refl, rules, subst, sym, true}
+use Rattle.std.proofs.Common.{◌≡◌, ◌≤◌, ℕ, List, arith, refl, rules, subst, sym, true}
 use Rattle.icu_normalizer_core.specs.Canonical.{IsDecomposing}
 use Rattle.icu_collator_core.specs.ReadSources.{canonical_by}
 use Rattle.icu_collator_core.specs.Stretched.{IsReadInto, IsStretched}

@@ -1,4 +1,4 @@
-use Rattle.std.proofs.Common.{◌≡◌, ◌≤◌, ◌∙◌, arith, inl, inr, refl, rules, sym}
+use Rattle.std.proofs.Common.{◌≤◌, ◌∙◌, arith, inl, inr, refl, rules, sym}
 use Rattle.icu_normalizer_core.specs.Canonical.{IsDecomposing}
 use Rattle.icu_collator_core.specs.ReadSources.{canonical_by}
 use Rattle.icu_collator_core.proofs.readings.PrimariesLemmas.{starts_told}

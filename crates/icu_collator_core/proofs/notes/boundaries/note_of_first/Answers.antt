@@ -1,7 +1,7 @@
 use Rattle.std.proofs.Common.{◌≡◌, ℕ, true, false, [], ◌∷◌, List, None, ap, rules, subst, sym, ◌∙◌}
 use lib.Utf8.{scalars}
 use Rattle.icu_collator_core.specs.Elements.{elements_of_list}
-use Rattle.icu_collator_core.specs.FlatNotes.{IsFlatNote, IsSteady}
+use Rattle.icu_collator_core.specs.FlatNotes.{IsFlatNote}
 use Rattle.icu_collator_core.specs.ReadSources.{canonical_by, weights_by}
 use Rattle.icu_collator_core.specs.declared.notes.flat_note.FlatNote.{FlatNote}
 use Rattle.icu_collator_core.proofs.readings.FlatNoteLemmas.{bounded_flat, noted_by}

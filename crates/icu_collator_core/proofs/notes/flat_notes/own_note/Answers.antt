@@ -1,4 +1,4 @@
-use Rattle.std.proofs.Common.{◌≡◌, ℕ, [], ◌∷◌, None, subst}
+use Rattle.std.proofs.Common.{ℕ, [], ◌∷◌, None, subst}
 use Rattle.icu_collator_core.specs.FlatNotes.{IsFlatUpTo}
 use Rattle.icu_collator_core.proofs.readings.FlatNoteLemmas.{one_flat}
 use Rattle.icu_collator_core.proofs.notes.flat_notes.own_note.Goals as goal

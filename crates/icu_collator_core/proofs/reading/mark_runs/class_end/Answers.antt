@@ -1,8 +1,5 @@
-use Rattle.std.proofs.Common.{◌≡◌, ◌<◌, ◌≤◌, ◌∙◌, length, arith, sym, ap}
-use Rattle.std.specs.Prelude.{slice_index}
-use Rattle.std.proofs.lemmas.List.{get_or_read}
 use Rattle.icu_normalizer_core.specs.BorrowedMeaning.{borrowed_meaning}
-use Rattle.icu_collator_core.proofs.lookups.MarksLeftLemmas.{class_more, class_none}
+use Rattle.icu_collator_core.proofs.lookups.MarksLeftLemmas.{class_none}
 use Rattle.icu_collator_core.proofs.reading.mark_runs.class_end.Goals as goal
 
 pub loop-i-init : goal.loop-i-init

@@ -1,4 +1,4 @@
-use Rattle.std.proofs.Common.{◌≡◌, ◌<◌, ◌≤◌, ◌∙◌, arith, length}
+use Rattle.std.proofs.Common.{◌<◌, ◌≤◌, arith, length}
 use Rattle.icu_collator_core.proofs.lookups.MarksLeftLemmas.{first_is, none_left, still_none}
 use Rattle.icu_collator_core.proofs.reading.mark_runs.first_left.Goals as goal
 

@@ -1,4 +1,4 @@
-use Rattle.std.proofs.Common.{◌≡◌, ◌∙◌, drop, sym}
+use Rattle.std.proofs.Common.{◌∙◌, drop}
 use Rattle.icu_collator_core.specs.Elements.{placed}
 use Rattle.icu_collator_core.specs.MarkRuns.{marks_left}
 use Rattle.icu_collator_core.proofs.readings.MarkReadLemmas.{accent_behind, accent_first}

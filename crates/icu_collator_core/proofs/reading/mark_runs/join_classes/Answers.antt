@@ -1,5 +1,4 @@
-use Rattle.std.proofs.Common.{◌≡◌, ◌≤◌, ◌<◌, ◌+◌, ◌∙◌, ap, sym, subst, arith, refl, length}
-use Rattle.std.specs.Prelude.{set}
+use Rattle.std.proofs.Common.{◌≤◌, ◌<◌, ◌+◌, ◌∙◌, ap, sym, subst, arith, refl, length}
 use Rattle.std.proofs.lemmas.List.{length-set}
 use Rattle.icu_char16trie.specs.UnitSteps.{start}
 use Rattle.icu_collator_core.specs.MarkRuns.{are_of_classes, is_class_of_marks, marks_left}

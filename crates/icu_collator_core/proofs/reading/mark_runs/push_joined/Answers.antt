@@ -1,4 +1,4 @@
-use Rattle.std.proofs.Common.{◌≡◌, ◌∷◌, [], Some, None, sym, ap, subst, ◌∙◌}
+use Rattle.std.proofs.Common.{◌≡◌, ◌∷◌, [], sym, subst}
 use Rattle.std.specs.Option.{unwrap_or}
 use Rattle.icu_collator_core.specs.Defaults.{default_elements}
 use Rattle.icu_collator_core.specs.ElementLists.{AddsElements}

@@ -1,4 +1,4 @@
-use Rattle.std.proofs.Common.{◌≡◌, ◌<◌, ◌≤◌, ◌+◌, ◌∙◌, ◌∷◌, ℕ, [], length, arith, ap}
+use Rattle.std.proofs.Common.{◌≡◌, ◌≤◌, ◌∷◌, length, arith, ap}
 use Rattle.std.specs.Option.{is_some}
 use Rattle.icu_collator_core.specs.MarkRuns.{marks_left}
 use Rattle.icu_collator_core.specs.ReadSources.{canonical_by, weights_by}

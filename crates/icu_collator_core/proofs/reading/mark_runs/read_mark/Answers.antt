@@ -1,12 +1,12 @@
-use Rattle.std.proofs.Common.{◌≡◌, ◌==◌, ◌&&◌, ◌∙◌, ◌++◌, ℕ, Bool, List, [], ◌∷◌, None, true, false, sym, ap, subst, append-nil, drop}
+use Rattle.std.proofs.Common.{◌==◌, ◌&&◌, ◌∙◌, ◌++◌, ℕ, Bool, [], ◌∷◌, true, false, sym, ap, subst, append-nil, drop}
 use Rattle.std.specs.Option.{is_some}
 use Rattle.std.proofs.lemmas.Bool.{and_right}
-use lib.Utf8.{scalar, scalars}
+use lib.Utf8.{scalars}
 use Rattle.icu_collator_types.specs.declared.elements.Element.{Element}
 use Rattle.icu_collator_core.specs.declared.tables.CollationTables.{CollationTables}
-use Rattle.icu_collator_core.specs.Defaults.{primary_element, special_primary}
+use Rattle.icu_collator_core.specs.Defaults.{special_primary}
 use Rattle.icu_collator_core.specs.ElementLists.{unpacked}
-use Rattle.icu_collator_core.specs.Elements.{Placed, is_before_accent, placed}
+use Rattle.icu_collator_core.specs.Elements.{is_before_accent, placed}
 use Rattle.icu_collator_core.specs.MarkRuns.{HasPushed}
 use Rattle.icu_collator_core.specs.Pools.{element_of}
 use Rattle.icu_collator_core.specs.ReadSources.{canonical_by, weights_by}

@@ -1,4 +1,4 @@
-use Rattle.std.proofs.Common.{◌≡◌, ◌<◌, ◌∙◌, ap, sym, drop}
+use Rattle.std.proofs.Common.{◌≡◌, ◌∙◌, ap, sym, drop}
 use Rattle.icu_normalizer_core.specs.BorrowedMeaning.{borrowed_meaning}
 use Rattle.icu_normalizer_core.specs.Canonical.{Canonical}
 use Rattle.icu_normalizer_core.specs.CanonicalMeaning.{meaning}

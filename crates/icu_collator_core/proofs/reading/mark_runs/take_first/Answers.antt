@@ -1,7 +1,5 @@
-use Rattle.std.proofs.Common.{◌≡◌, ◌<◌, ◌≤◌, ◌∙◌, ◌==◌, ℕ, arith, length, sym, ap, subst, true, ◌∷◌}
-use Rattle.std.specs.Prelude.{not}
-use Rattle.std.proofs.lemmas.Bool.{and_from, and_parts}
-use Rattle.icu_collator_core.specs.MarkRuns.{are_of_class, are_of_classes, is_class_of_marks, marks_left}
+use Rattle.std.proofs.Common.{◌<◌, ◌≤◌, ◌∙◌, arith, length, sym, ap, ◌∷◌}
+use Rattle.icu_collator_core.specs.MarkRuns.{are_of_classes, is_class_of_marks, marks_left}
 use Rattle.icu_collator_core.proofs.lookups.MarksLeftLemmas.{all_new, first_taken, none_left, still_none, without_first}
 use Rattle.icu_collator_core.proofs.reading.mark_runs.take_first.Goals as goal
 

@@ -1,5 +1,4 @@
 use Rattle.std.proofs.Common.{◌∙◌, ap, subst}
-use Rattle.std.specs.Option.{MatchOption}
 use Rattle.icu_char16trie.specs.KeyFolds.{AreFolded}
 use Rattle.icu_char16trie.specs.UnitGrammar.{IsUnitTrie}
 use Rattle.icu_collator_core.specs.declared.check.walks.Reading.TheVariants.{Whole}

@@ -2,7 +2,6 @@ use Rattle.std.proofs.Common.{subst, sym}
 use Rattle.icu_collator_core.specs.TableMeaning.{pools_of}
 use Rattle.icu_collator_core.specs.UnsafeWords.{ReadingGives}
 use Rattle.icu_collator_core.specs.WeightLists.{Grows}
-use Rattle.icu_collator_core.proofs.apart.GrowthLemmas.{grown_by_none}
 use Rattle.icu_collator_core.proofs.unsafe_characters.context_texts.gather_reading.Goals as goal
 
 pub returns-in_ok-gather_met-in-Whole : goal.returns-in_ok-gather_met-in-Whole

@@ -1,4 +1,4 @@
-use Rattle.std.proofs.Common.{◌≡◌, List, ℕ, ap, arith, false, length, rules, subst, sym, take, ◌++◌, ◌∙◌}
+use Rattle.std.proofs.Common.{◌≡◌, List, ℕ, ap, false, rules, subst, sym, take, ◌++◌, ◌∙◌}
 use Rattle.std.proofs.Math.Seq.{take-length}
 use Rattle.icu_collator_core.specs.Stretched.{BeginsWithElements}
 use Rattle.icu_collator_core.proofs.readings.StretchedLemmas.{flat_stands, front_stands}

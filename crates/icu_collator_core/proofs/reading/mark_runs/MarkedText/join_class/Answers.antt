@@ -1,8 +1,6 @@
-use Rattle.std.proofs.Common.{◌≡◌, ℕ, suc, ◌+◌, ◌<◌, ◌≤◌, Some, List, ◌∷◌, ◌++◌, [], ◌∙◌, ap, sym, subst, arith, refl, add-one, append-nil, drop, length}
-use Rattle.std.specs.Prelude.{slice_index}
+use Rattle.std.proofs.Common.{◌≡◌, suc, ◌+◌, ◌<◌, ◌≤◌, Some, ◌∷◌, ◌++◌, [], ◌∙◌, ap, sym, subst, arith, refl, add-one, append-nil, drop, length}
 use Rattle.std.specs.Option.{is_some}
 use Rattle.std.proofs.lemmas.List.{drop_all, get_or_read}
-use Rattle.icu_collator_core.specs.Elements.{Placed}
 use Rattle.icu_collator_core.specs.MarkRuns.{HasJoinedTo}
 use Rattle.icu_collator_core.specs.ReadTexts.{IsAtText, if_recorded, suffix_units, word_by}
 use Rattle.icu_collator_core.specs.ReadWords.{table_word}

@@ -1,4 +1,4 @@
-use Rattle.std.proofs.Common.{◌≡◌, ◌≤◌, ◌-◌, ℕ, true, ◌∙◌, ◌==◌, ◌++◌, arith, ap, sym, subst, drop, length, length-drop}
+use Rattle.std.proofs.Common.{true, ◌∙◌, ◌==◌, arith, ap, sym, drop, length, length-drop}
 use Rattle.std.specs.Prelude.{not}
 use Rattle.std.proofs.lemmas.Bool.{and_from, and_parts}
 use Rattle.icu_collator_core.specs.MarkRuns.{are_of_class}

@@ -1,6 +1,0 @@
-use Rattle.std.proofs.Common.{◌≡◌, map, take}
-use Rattle.icu_normalizer_core.specs.Named.{wide_block}
-use Rattle.icu_normalizer_core.proofs.canonical.builder.names.wide_blocks.Given as goal
-
-abbrev pub invariant-loop-c : goal.invariant-loop-c
-invariant-loop-c l = l.numbers.items ≡ map wide_block (take l.c-index l.characters)
