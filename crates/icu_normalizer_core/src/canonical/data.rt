@@ -88,7 +88,7 @@ impl<'a> CanonicalData<'a> {
 
     /// Canonical data of tables that are known to pass every check, and of a list of the code points of which they say
     /// something. Fails only if memory is refused.
-    pub(super) fn of_accepted(
+    pub(crate) fn of_accepted(
         alloc: Global,
         tables: CanonicalTables<'a>,
         told: &[u32],
