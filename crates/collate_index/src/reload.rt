@@ -1,7 +1,7 @@
 //! What a reload of records asks of each name: whether its key is made anew, and the key.
 
 ghost use Rattle.std.specs.Bool.{OnFalse, OnTrue};
-ghost use Rattle.std.specs.Prelude.{◌≡◌, ◌+◌, ◌<◌, All, IfOk, IsTrue, MatchBool, None, OnErr, OnOk, Some, length};
+ghost use Rattle.std.specs.Prelude.{◌≡◌, ◌+◌, ◌<◌, All, IfOk, IsTrue, MatchBool, None, OnErr, OnOk, Some, if◌then◌else◌, length};
 ghost use Rattle.icu_normalizer_core.specs.Decoding.{utf8_chars};
 ghost use Rattle.icu_collator.specs.CollatorAnswers.{key_by};
 ghost use Rattle.collate_laws.specs.OverRecords.{IsCollatorOf};

@@ -14,7 +14,7 @@ use Rattle.icu_normalizer_core.specs.declared.provider.error.DataError.{DataErro
 use Rattle.icu_normalizer_core.specs.declared.provider.error.DataError.TheVariants.{Canonical as Fault, Invalid, Missing, Memory as NoMemory}
 use Rattle.icu_normalizer_core.proofs.accepted.AcceptedPairs.{canonical as accepted_canonical}
 use Rattle.icu_normalizer_core.proofs.accepted.AcceptedWords.{compatible}
-use Rattle.icu_normalizer_core.proofs.builder.BuiltTableLemmas.{fault_refutes}
+use Rattle.icu_normalizer_core.proofs.building.BuiltTableLemmas.{fault_refutes}
 use Rattle.icu_normalizer.specs.NormalizerTables.{IsMadeOfBoth, IsMadeOfCanonical, NormalizerTables, both_tables}
 use Rattle.icu_collator_types.specs.declared.options.CollatorOptions.{CollatorOptions}
 use Rattle.icu_collator_types.specs.declared.options.CollatorPreferences.{CollatorPreferences}

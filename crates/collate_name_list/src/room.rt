@@ -1,6 +1,6 @@
 //! Room among slots: the empty ones dropped, and the full ones numbered anew.
 
-ghost use Rattle.std.specs.Prelude.{◌≡◌, ◌+◌, ◌<◌, IfOk, filter, is_some};
+ghost use Rattle.std.specs.Prelude.{◌≡◌, ◌+◌, ◌<◌, IfOk, filter, is_some, if◌then◌else◌};
 ghost use Rattle.collate_name_list.specs.Room.{numbers_from};
 
 use crate::slots::Stored;

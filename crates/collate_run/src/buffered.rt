@@ -1,6 +1,6 @@
 //! A run whose lines are taken from the reader's buffer, and whose replies are sent together where no whole line is ready.
 
-ghost use Rattle.std.specs.Prelude.{◌≡◌, ◌≢◌, ◌==◌, ◌++◌, ◌<◌, ◌≤◌, ◌↔◌, ◌||◌, ℕ, [], List, length, take, false, true, Err, IfErr, IfSome, OnOk, is_err, position};
+ghost use Rattle.std.specs.Prelude.{◌≡◌, ◌≢◌, ◌==◌, ◌++◌, ◌<◌, if◌then◌else◌, ◌≤◌, ◌↔◌, ◌||◌, ℕ, [], List, length, take, false, true, Err, IfErr, IfSome, OnOk, is_err, position};
 ghost use Rattle.std.specs.Io.KnownBytes.{Keeps};
 ghost use Rattle.collate_index.specs.Catalogue.{opened};
 ghost use Rattle.collate_run.specs.Buffered.{AnswersLines, Gathers, IsReadyLine, TakesReady, is_write_fault};

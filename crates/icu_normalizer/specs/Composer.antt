@@ -1,5 +1,5 @@
 -- The last starter of decomposed characters, and the marks after it.
-use Rattle.std.specs.Prelude.{◌≡◌, ℕ, ◌+◌, ◌-◌, false, List, [], ◌++◌, length, drop, Option, Some, None, option_to_list}
+use Rattle.std.specs.Prelude.{◌≡◌, ℕ, ◌+◌, ◌-◌, false, List, [], ◌++◌, length, drop, Option, Some, None, option_to_list, if◌then◌else◌}
 use Rattle.smallvec.specs.SmallVec.{small_vec_len}
 use Rattle.icu_normalizer_core.specs.Canonical.{Canonical, composing, recomposed}
 use Rattle.icu_normalizer_core.specs.FormData.{form_meaning}

@@ -1,5 +1,5 @@
 pub mod accepted
-pub mod builder
+pub mod building
 pub mod built
 pub mod compatible
 pub mod composed

@@ -1,5 +1,5 @@
 -- Words for iterators whose source is an iterator of characters.
-use Rattle.std.specs.Prelude.{◌≡◌, ℕ, ◌+◌, Bool, true, false, List, [], ◌∷◌, ◌++◌, Option, Result, MatchBool, MatchOption, MatchResult, IfSome, IfNone, OnErr, None, ⊤}
+use Rattle.std.specs.Prelude.{◌≡◌, ℕ, ◌+◌, Bool, true, false, List, [], ◌∷◌, ◌++◌, Option, Result, MatchBool, MatchOption, MatchResult, IfSome, IfNone, OnErr, None, if◌then◌else◌, ⊤}
 use Rattle.std.specs.Iterator.{Count, IsFinite, size, AlwaysYields}
 
 -- each run of the iterator gives these characters

@@ -188,7 +188,7 @@ impl CanonicalDataBuilder {
     }
 
     /// These tables, and a list of the code points of which they say something.
-    #[tactic(auto, using(crate::proofs::builder::BuiltMapLemmas::built_meaning, crate::proofs::builder::BuiltTableLemmas::fault_breaks))]
+    #[tactic(auto, using(crate::proofs::building::BuiltMapLemmas::built_meaning, crate::proofs::building::BuiltTableLemmas::fault_breaks))]
     fn build_told(&self) -> Result<(CanonicalTables<'static>, Vec<u32>), CanonicalDataBuildError>
         ensures means { IfOk result (λ made. AreMeaning self.now.canonical (meaning made.0)) }
         ensures accepted { IfOk result (λ made. IsAccepted (lists_of made.0)) }

@@ -13,8 +13,8 @@ use Rattle.icu_normalizer_core.specs.ListRoom.{HasRoom, list_room}
 use Rattle.icu_normalizer_core.specs.Named.{narrow_block, wide_block}
 use Rattle.icu_normalizer_core.specs.Sameness.{AreSameCanonical}
 use Rattle.icu_normalizer_core.proofs.settling.LeftLemmas.{left_one}
-use Rattle.icu_normalizer_core.proofs.builder.AcceptedMapsSameLemmas.{AreAlike, composed_same, one_meaning}
-use Rattle.icu_normalizer_core.proofs.builder.GivenLemmas.{counted, one_each}
+use Rattle.icu_normalizer_core.proofs.building.AcceptedMapsSameLemmas.{AreAlike, composed_same, one_meaning}
+use Rattle.icu_normalizer_core.proofs.building.GivenLemmas.{counted, one_each}
 use Rattle.collate_lines.specs.declared.rule.Rule.{Rule}
 use Rattle.collate_lines.specs.declared.rule.Rule.TheVariants.{Limit, C3, C5, C6, C8, C9, V14}
 use Rattle.collate_lines.specs.Record.{Record, nothing, class, mapping, compatibility, weights, range, digit, setting}

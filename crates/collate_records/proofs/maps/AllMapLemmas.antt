@@ -19,7 +19,7 @@ use Rattle.icu_normalizer_core.specs.ListRoom.{HasRoom, list_room}
 use Rattle.icu_normalizer_core.specs.Named.{narrow_block, wide_block}
 use Rattle.icu_normalizer_core.specs.Words.{WordLists}
 use Rattle.icu_normalizer_core.proofs.settling.LeftLemmas.{left_one, left_same}
-use Rattle.icu_normalizer_core.proofs.builder.AllStepLemmas.{all_second, cases_step, step_apart, step_fixed, step_given, unbound}
+use Rattle.icu_normalizer_core.proofs.building.AllStepLemmas.{all_second, cases_step, step_apart, step_fixed, step_given, unbound}
 use Rattle.collate_lines.specs.declared.rule.Rule.TheVariants.{C9, Limit, V14}
 use Rattle.collate_lines.specs.Record.{Record, mapping, compatibility}
 use Rattle.collate_rules.specs.Meaning.{any_step, class_of, compatibility_in, compatibility_of, first_found, mapping_in, step_of}

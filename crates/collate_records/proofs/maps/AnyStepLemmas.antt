@@ -10,7 +10,7 @@ use Rattle.std.proofs.lemmas.List.Elements.{All-cons, All-contains, All-get_or, 
 use Rattle.icu_normalizer_core.specs.BuiltIn.{built_in_compatibility_step, built_in_step, is_built_in}
 use Rattle.icu_normalizer_core.specs.Canonical.{Leaves}
 use Rattle.icu_normalizer_core.proofs.built.BuiltInFacts.{class_scalar}
-use Rattle.icu_normalizer_core.proofs.builder.AllStepLemmas.{cases_list, cases_step, compatible}
+use Rattle.icu_normalizer_core.proofs.building.AllStepLemmas.{cases_list, cases_step, compatible}
 use Rattle.collate_lines.specs.declared.rule.Rule.TheVariants.{C1, C2, C4, C7}
 use Rattle.collate_lines.specs.Record.{Record, nothing, class, mapping, compatibility, weights, range, digit, setting}
 use Rattle.collate_rules.specs.Meaning.{any_step, class_of, compatibility_in, compatibility_of, else_mapped, first_found, mapping_in, step_of}

@@ -9,7 +9,7 @@ use Rattle.std.proofs.lemmas.List.{take-append-drop}
 use Rattle.std.proofs.lemmas.List.Elements.{All-cons, All-nil, All-take, All-weaker}
 use Rattle.std.proofs.lemmas.List.Sorted.{All-permutation}
 use Rattle.icu_normalizer_core.specs.BuiltIn.{built_in_compatibility_step, built_in_step, is_built_in}
-use Rattle.icu_normalizer_core.proofs.builder.AllStepLemmas.{cases_list, scalars_left}
+use Rattle.icu_normalizer_core.proofs.building.AllStepLemmas.{cases_list, scalars_left}
 use Rattle.collate_lines.specs.declared.rule.Rule.TheVariants.{C1, C2, C4, C5, V14}
 use Rattle.collate_lines.specs.Record.{Record}
 use Rattle.collate_rules.specs.CanonicalParts.{SaysSame}

@@ -6,7 +6,7 @@ use Rattle.std.proofs.lemmas.List.Elements.{All-head, All-tail}
 use Rattle.icu_normalizer_core.specs.BuiltIn.{built_in_compatibility_step, built_in_step, is_built_in}
 use Rattle.icu_normalizer_core.specs.Canonical.{Leaves, mapped, nothing, unmapped}
 use Rattle.icu_normalizer_core.proofs.settling.LeftLemmas.{all_unmapped, left_append, left_one, unmapped_left}
-use Rattle.icu_normalizer_core.proofs.builder.AllStepLemmas.{cases_step, left_through}
+use Rattle.icu_normalizer_core.proofs.building.AllStepLemmas.{cases_step, left_through}
 use Rattle.collate_lines.specs.Record.{Record}
 use Rattle.collate_rules.specs.Meaning.{any_step, class_of, compatibility_in, compatibility_of, else_mapped, first_found, mapping_in, step_of}
 use Rattle.collate_rules.specs.RecordRules.{is_mark}

@@ -10,7 +10,7 @@ use Rattle.std.proofs.lemmas.Option.{none-some, unwrap_or-slice_get}
 use Rattle.icu_normalizer_core.specs.BuiltIn.{built_in_class, is_syllable, is_built_in}
 use Rattle.icu_normalizer_core.specs.Canonical.{IsComposing, IsDecomposing}
 use Rattle.icu_normalizer_core.proofs.built.BuiltInFacts.{syllable_pair}
-use Rattle.icu_normalizer_core.proofs.builder.AllStepLemmas.{cases_list}
+use Rattle.icu_normalizer_core.proofs.building.AllStepLemmas.{cases_list}
 use Rattle.collate_lines.specs.declared.rule.Rule.TheVariants.{V14}
 use Rattle.collate_lines.specs.Record.{Record, nothing, mapping}
 use Rattle.collate_lines.specs.Repeats.{is_second, record_at}

@@ -1,5 +1,5 @@
 -- A cursor that is given the characters of a text one after another.
-use Rattle.std.proofs.Common.{◌≡◌, ℕ, ◌+◌, ◌-◌, ◌<◌, ◌/◌, ◌%◌, Bool, true, false, List, [], ◌∷◌, ◌++◌, length, refl, ap, ◌∙◌, arith, append-nil}
+use Rattle.std.proofs.Common.{◌≡◌, ℕ, ◌+◌, ◌-◌, ◌<◌, ◌/◌, ◌%◌, Bool, true, false, if◌then◌else◌, List, [], ◌∷◌, ◌++◌, length, refl, ap, ◌∙◌, arith, append-nil}
 use Rattle.std.specs.Prelude.{flat_map, ltb}
 use Rattle.std.proofs.lemmas.Grind.{flat_map-append}
 use Rattle.icu_char16trie.specs.Cursors.{answer_to, follow, state_of, units_of}

@@ -7,7 +7,7 @@ use Rattle.icu_normalizer_core.specs.Canonical.{Canonical, IsCanonical, marks_in
 use Rattle.icu_normalizer_core.specs.Decoding.{utf8_chars, utf16_chars}
 use Rattle.icu_normalizer_core.specs.Forming.{IsForming, IsSaidOver}
 use Rattle.icu_normalizer_core.specs.Sameness.{AreSameCanonical, AreSameComposing}
-use Rattle.icu_normalizer_core.proofs.builder.AcceptedMapsSameLemmas.{AreAlike, recomposed_same}
+use Rattle.icu_normalizer_core.proofs.building.AcceptedMapsSameLemmas.{AreAlike, recomposed_same}
 use Rattle.icu_normalizer_core.proofs.decoded.DecodedLemmas.{utf8_scalars, utf16_scalars}
 use Rattle.icu_normalizer_core.proofs.decomposed_lists.DecomposedLemmas.{AreScalar, full_same, order_same}
 use Rattle.icu_normalizer.specs.TextForms.{decomposed_text, composed_text}

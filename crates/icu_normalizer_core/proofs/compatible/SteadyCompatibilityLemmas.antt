@@ -8,7 +8,7 @@ use Rattle.icu_normalizer_core.specs.Compatibility.{compatibility_of}
 use Rattle.icu_normalizer_core.specs.SteadyAnswers.{SaysYes, AreSteady}
 use Rattle.icu_normalizer_core.specs.Words.{WordLists, full_in}
 use Rattle.icu_normalizer_core.proofs.decomposed_lists.DecomposedLemmas.{decomposed_scalars}
-use Rattle.icu_normalizer_core.proofs.builder.AcceptedMapsSameLemmas.{recomposed_same}
+use Rattle.icu_normalizer_core.proofs.building.AcceptedMapsSameLemmas.{recomposed_same}
 
 -- a steady character with its canonical full list is steady by compatibility data too
 module _ (lists : CanonicalLists) (words : WordLists) (c : ℕ) (keeps : IsCanonical (canonical_of lists)) (scalar : IsScalar c) (same : full_in words c ≡ (canonical_of lists).full c) where

@@ -19,7 +19,7 @@ use Rattle.icu_normalizer_core.specs.CanonicalWords.{built_in_full, class_of_wor
 use Rattle.icu_normalizer_core.specs.Plain.{AreSilent, AreUntold, IsCursor, IsIn, IsNothingBuiltIn, IsPlain, IsPlainSyllable, IsRun, IsSilent, IsUntold, Rises, Tells, TellsBelow}
 use Rattle.icu_normalizer_core.specs.Triples.{IsUnlisted}
 use Rattle.icu_normalizer_core.proofs.built.BuiltInFacts.{free_full, syllable_mapped}
-use Rattle.icu_normalizer_core.proofs.builder.InOrderLemmas.{index_before, index_last}
+use Rattle.icu_normalizer_core.proofs.building.InOrderLemmas.{index_before, index_last}
 use Rattle.icu_normalizer_core.proofs.faults.FaultLemmas.{own_good}
 use Rattle.icu_normalizer_core.proofs.faults.OffenderLemmas.{IsLeastIn}
 use Rattle.icu_normalizer_core.proofs.decoded.ScalarLemmas.{scalar_below}

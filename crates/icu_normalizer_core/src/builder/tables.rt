@@ -78,7 +78,7 @@ fn word_trie(
 }
 
 /// The tables of mappings, words of full lists, and classes. Fails only if memory is refused.
-#[tactic(auto, using(crate::proofs::builder::BuiltTableLemmas::put_together))]
+#[tactic(auto, using(crate::proofs::building::BuiltTableLemmas::put_together))]
 fn packed_tables(
     alloc: Global,
     classes: &Classes<'_>,

@@ -1,7 +1,7 @@
 use Rattle.std.proofs.Common.{subst}
 use Rattle.icu_normalizer_core.specs.CanonicalMeaning.{lists_of}
 use Rattle.icu_normalizer_core.specs.CanonicalRefusals.{IsRefusal}
-use Rattle.icu_normalizer_core.proofs.builder.BuiltTableLemmas.{fault_refutes}
+use Rattle.icu_normalizer_core.proofs.building.BuiltTableLemmas.{fault_refutes}
 use Rattle.collate_index.proofs.collators.canonical_data.Goals as goal
 
 pub unreachable-requires : goal.unreachable-requires

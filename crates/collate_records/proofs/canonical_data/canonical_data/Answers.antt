@@ -7,7 +7,7 @@ use Rattle.icu_normalizer_core.specs.declared.canonical.data.CanonicalDataError.
 use Rattle.icu_normalizer_core.specs.declared.canonical.data.CanonicalDataError.TheVariants.{Fault}
 use Rattle.icu_normalizer_core.specs.declared.canonical.tables.CanonicalFault.{CanonicalFault}
 use Rattle.icu_normalizer_core.specs.declared.canonical.tables.CanonicalTables.{CanonicalTables}
-use Rattle.icu_normalizer_core.proofs.builder.BuiltTableLemmas.{fault_refutes}
+use Rattle.icu_normalizer_core.proofs.building.BuiltTableLemmas.{fault_refutes}
 use Rattle.collate_records.proofs.canonical_data.canonical_data.Goals as goal
 
 pub returns-in-Ok : goal.returns-in-Ok

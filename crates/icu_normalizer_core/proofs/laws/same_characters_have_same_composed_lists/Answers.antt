@@ -1,4 +1,4 @@
-use Rattle.icu_normalizer_core.proofs.builder.AcceptedMapsSameLemmas.{composed_same}
+use Rattle.icu_normalizer_core.proofs.building.AcceptedMapsSameLemmas.{composed_same}
 use Rattle.icu_normalizer_core.proofs.laws.same_characters_have_same_composed_lists.Goals as goal
 
 pub returns : goal.returns
