@@ -2,7 +2,7 @@
 //! together, and calls of the reader and writer that fail.
 
 use crate::commands::words_of;
-use crate::failing::{FailingReader, FailingWriter, Failure};
+use crate::failing::{FailingReader, FailingWriter, READ_FAILURES, WRITE_FAILURES, assert_ended};
 use crate::letters::{PREFERENCES, PRIMARY};
 use crate::runs::{REPLIES, TEXT};
 use assertions::assert_same;
@@ -280,7 +280,7 @@ fn run_buffered_ends_where_a_read_fails(rt: HostRuntime) -> Result<(), Fail> {
         (8, 62),
         (9, 62),
     ];
-    for kind in [io::ErrorKind::Interrupted, io::ErrorKind::Other] {
+    for kind in READ_FAILURES {
         for (calls, bytes) in stands {
             let mut written = Vec::new(alloc);
             let reader = FailingReader {
@@ -291,12 +291,7 @@ fn run_buffered_ends_where_a_read_fails(rt: HostRuntime) -> Result<(), Fail> {
             };
             let reader = BufReader::with_capacity(alloc, 64, reader)?;
             let result = run_over_nothing(&rt, alloc, reader, &mut written);
-            assert_same!(rt; result, Err(RunFault::Read); calls);
-            assert_eq!(rt;
-                Some(written.as_slice()),
-                REPLIES.get(..bytes),
-                "after {calls}"
-            );
+            assert_ended(&rt, calls, result, RunFault::Read, &written, REPLIES, bytes);
         }
     }
     Ok(())
@@ -305,12 +300,7 @@ fn run_buffered_ends_where_a_read_fails(rt: HostRuntime) -> Result<(), Fail> {
 #[test]
 fn run_buffered_ends_where_a_write_fails(rt: HostRuntime) {
     let alloc = rt.alloc();
-    let failures = [
-        Failure::Error(io::ErrorKind::Interrupted),
-        Failure::Error(io::ErrorKind::Other),
-        Failure::NoByte,
-    ];
-    for failure in failures {
+    for failure in WRITE_FAILURES {
         // How many calls of up to four bytes succeed, and how many bytes have then been written.
         for (calls, bytes) in [(0, 0), (1, 4), (2, 8), (5, 20), (9, 36), (10, 40), (11, 44)] {
             let mut written = Vec::new(alloc);
@@ -321,11 +311,14 @@ fn run_buffered_ends_where_a_write_fails(rt: HostRuntime) {
                 failure,
             };
             let result = run_over_nothing(&rt, alloc, TEXT, writer);
-            assert_same!(rt; result, Err(RunFault::Write); calls);
-            assert_eq!(rt;
-                Some(written.as_slice()),
-                REPLIES.get(..bytes),
-                "after {calls}"
+            assert_ended(
+                &rt,
+                calls,
+                result,
+                RunFault::Write,
+                &written,
+                REPLIES,
+                bytes,
             );
         }
     }

@@ -1,6 +1,9 @@
-//! A reader and a writer over memory that take few bytes a call, and fail after some calls.
+//! A reader and a writer over memory that take few bytes a call, and fail after some calls; what a run over them ends with.
 
+use assertions::assert_same;
+use collate_run::run::RunFault;
 use std::io::{self, Read, Write};
+use std::process::Abort;
 
 /// How a fake fails.
 #[derive(Clone, Copy)]
@@ -8,6 +11,19 @@ pub(crate) enum Failure {
     Error(io::ErrorKind),
     NoByte,
 }
+
+/// How a reader fails.
+pub(crate) const READ_FAILURES: [io::ErrorKind; 2] = [
+    io::ErrorKind::Interrupted,
+    io::ErrorKind::Other,
+];
+
+/// How a writer fails.
+pub(crate) const WRITE_FAILURES: [Failure; 3] = [
+    Failure::Error(io::ErrorKind::Interrupted),
+    Failure::Error(io::ErrorKind::Other),
+    Failure::NoByte,
+];
 
 /// A reader of a text that gives up to so many bytes a call, and fails after some calls.
 #[derive(Drop)]
@@ -55,4 +71,20 @@ impl Write for FailingWriter<'_> {
     fn flush(&mut self) -> io::Result<()> {
         Ok(())
     }
+}
+
+/// A run that failed after so many calls ended with this fault, and wrote so many bytes of these replies.
+pub(crate) fn assert_ended(
+    rt: &impl Abort,
+    calls: usize,
+    result: Result<(), RunFault>,
+    fault: RunFault,
+    written: &[u8],
+    replies: &[u8],
+    bytes: usize,
+) {
+    assert_same!(rt; result, Err(fault); calls);
+    let wanted = replies.get(..bytes).unwrap_or(b"");
+    assert_same!(rt; written.len(), bytes; calls);
+    assert_same!(rt; *written, *wanted; calls);
 }

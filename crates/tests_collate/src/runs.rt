@@ -1,7 +1,9 @@
 //! Runs over fakes of a reader and a writer that fail in mid-stream, and the program's texts and statuses.
 
 use crate::commands::words_of;
-use crate::failing::{FailingReader, FailingWriter, Failure};
+use crate::failing::{
+    FailingReader, FailingWriter, Failure, READ_FAILURES, WRITE_FAILURES, assert_ended,
+};
 use crate::letters::{PREFERENCES, PRIMARY};
 use assertions::assert_same;
 use collate_index::index::{Absent, AddError, ReloadError};
@@ -98,7 +100,7 @@ fn run_ends_where_a_read_fails(rt: HostRuntime) {
         (47, 62),
         (51, 62),
     ];
-    for kind in [io::ErrorKind::Interrupted, io::ErrorKind::Other] {
+    for kind in READ_FAILURES {
         for (calls, bytes) in stands {
             let mut written = Vec::new(alloc);
             let reader = FailingReader {
@@ -108,12 +110,7 @@ fn run_ends_where_a_read_fails(rt: HostRuntime) {
                 kind,
             };
             let result = run_over_nothing(&rt, alloc, reader, &mut written);
-            assert_same!(rt; result, Err(RunFault::Read); calls);
-            assert_eq!(rt;
-                Some(written.as_slice()),
-                REPLIES.get(..bytes),
-                "after {calls}"
-            );
+            assert_ended(&rt, calls, result, RunFault::Read, &written, REPLIES, bytes);
         }
     }
 }
@@ -121,12 +118,7 @@ fn run_ends_where_a_read_fails(rt: HostRuntime) {
 #[test]
 fn run_ends_where_a_write_fails(rt: HostRuntime) {
     let alloc = rt.alloc();
-    let failures = [
-        Failure::Error(io::ErrorKind::Interrupted),
-        Failure::Error(io::ErrorKind::Other),
-        Failure::NoByte,
-    ];
-    for failure in failures {
+    for failure in WRITE_FAILURES {
         // How many calls of up to four bytes succeed, and how many bytes have then been written.
         for (calls, bytes) in [(0, 0), (1, 4), (2, 6), (3, 10), (4, 14), (5, 16)] {
             let mut written = Vec::new(alloc);
@@ -137,11 +129,14 @@ fn run_ends_where_a_write_fails(rt: HostRuntime) {
                 failure,
             };
             let result = run_over_nothing(&rt, alloc, TEXT, writer);
-            assert_same!(rt; result, Err(RunFault::Write); calls);
-            assert_eq!(rt;
-                Some(written.as_slice()),
-                REPLIES.get(..bytes),
-                "after {calls}"
+            assert_ended(
+                &rt,
+                calls,
+                result,
+                RunFault::Write,
+                &written,
+                REPLIES,
+                bytes,
             );
         }
     }
