@@ -1,5 +1,5 @@
 -- what of a line is compared
-use Rattle.std.specs.Prelude.{ℕ, List}
+use Rattle.std.specs.Prelude.{ℕ, List, if◌then◌else◌}
 use Rattle.std.specs.Io.BufRead.{strip_last}
 use Rattle.collate_merge.specs.Columns.{column_of}
 use Rattle.collate_merge.specs.declared.part.LinePart.{LinePart}

@@ -1,5 +1,5 @@
 -- the numbers that slots have once the empty ones are dropped
-use Rattle.std.specs.Prelude.{ℕ, ◌+◌, List, [], ◌∷◌, Option, is_some}
+use Rattle.std.specs.Prelude.{ℕ, ◌+◌, List, [], ◌∷◌, Option, is_some, if◌then◌else◌}
 use Rattle.collate_name_list.specs.declared.slots.Stored.{Stored}
 
 -- for each slot, how many before it are full, and this many more

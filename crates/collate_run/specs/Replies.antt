@@ -1,5 +1,5 @@
 -- what a line asks for, the reply to it, and the catalogue after it
-use Rattle.std.specs.Prelude.{◌≡◌, ◌==◌, ℕ, ◌+◌, Option, None, Some, Result, Ok, Err, List, [], ◌∷◌, ◌++◌, ◌⊎◌, ◌≤◌, length, take, drop, codes, decimal, flat_map, bytes_eq, position}
+use Rattle.std.specs.Prelude.{◌≡◌, ◌==◌, ℕ, ◌+◌, if◌then◌else◌, Option, None, Some, Result, Ok, Err, List, [], ◌∷◌, ◌++◌, ◌⊎◌, ◌≤◌, length, take, drop, codes, decimal, flat_map, bytes_eq, position}
 use Rattle.std.specs.List.{Contains}
 use Rattle.hex.specs.Hex.{encode_lower}
 use Rattle.icu_normalizer_core.specs.Decoding.{utf8_chars}

@@ -1,5 +1,5 @@
 -- The lines of texts, what of each is compared, and lists of them in order and as they are written.
-use Rattle.std.specs.Prelude.{◌==◌, ℕ, Bool, true, false, not, List, [], ◌∷◌, ◌++◌, flat_map, map}
+use Rattle.std.specs.Prelude.{◌==◌, ℕ, Bool, true, false, not, List, [], ◌∷◌, ◌++◌, flat_map, if◌then◌else◌, map}
 use Rattle.std.specs.List.{prefix_len}
 use Rattle.hex.specs.Hex.{encode_lower}
 use Rattle.collate_merge.specs.LineParts.{part_of}

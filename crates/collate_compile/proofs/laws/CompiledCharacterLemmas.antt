@@ -1,7 +1,7 @@
 -- What the grammar gives of the texts and prefixes of lines: their characters are scalar values, a text has one at least,
 -- and a prefix at most three.
 use Rattle.std.proofs.Common.{◌≡◌, ℕ, ◌<◌, ◌≤◌, Bool, true, leb, List, [], ◌∷◌, length, Option, Some, None, refl, arith}
-use Rattle.std.specs.Prelude.{◌==◌, codes, option_and_then}
+use Rattle.std.specs.Prelude.{◌==◌, codes, if◌then◌else◌, option_and_then}
 use Rattle.std.specs.List.{slice_split}
 use Rattle.std.proofs.lemmas.Bool.{and_from, leb-true}
 use Rattle.std.proofs.lemmas.Bool.Decides.{nat_tests}

@@ -1,4 +1,5 @@
 -- Names with the keys that a reload gives them, so far.
+use Rattle.std.specs.Prelude.{if◌then◌else◌}
 use Rattle.std.proofs.Common.{◌≡◌, ℕ, ◌+◌, Bool, true, false, List, [], ◌∷◌, ◌++◌, length, take, drop, get_or, Option, Some, None, refl, sym, ap, ◌∙◌, arith}
 use Rattle.collate_name_list.specs.StoredNames.{StoredName, names_of, rekeyed, with_key}
 

@@ -1,6 +1,6 @@
 -- What is given, if something is.
 use Rattle.std.proofs.Common.{◌≡◌, Bool, true, false, Option, Some, None, refl, subst}
-use Rattle.std.specs.Prelude.{option_and_then}
+use Rattle.std.specs.Prelude.{if◌then◌else◌, option_and_then}
 use Rattle.collate_lines.specs.Grammar.{checked}
 
 abbrev pub Gives : {R : Type 0} → (R → Type 0) → Option R → Type 0

@@ -4,7 +4,7 @@ use Rattle.std.proofs.lemmas.List.{append-nil, length-take, take_more, take_rest
 use Rattle.std.proofs.lemmas.List.Elements.{All-append, All-from_get_or, All-nil, All-push}
 use Rattle.std.proofs.lemmas.List.Quantifiers.{position-Some}
 use Rattle.std.proofs.lemmas.Bool.Decides.{nat_tests}
-use Rattle.std.specs.Prelude.{position, ◌==◌, IfErr, IfSome, MatchResult}
+use Rattle.std.specs.Prelude.{position, ◌==◌, if◌then◌else◌, IfErr, IfSome, MatchResult}
 use Rattle.std.proofs.BufReadLemmas.{Consumes_shown}
 use Rattle.std.specs.Io.{StartsWith}
 use Rattle.std.specs.Io.BufRead.{DropsConsumable}

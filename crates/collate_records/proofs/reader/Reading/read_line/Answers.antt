@@ -1,4 +1,4 @@
-use Rattle.std.proofs.Common.{◌≡◌, ◌+◌, ◌++◌, ◌∷◌, [], Bool, true, false, not, ap, sym, refl, ◌∙◌, inl}
+use Rattle.std.proofs.Common.{◌≡◌, ◌+◌, ◌++◌, ◌∷◌, [], Bool, true, false, not, ap, sym, refl, ◌∙◌, inl, if◌then◌else◌}
 use Rattle.std.proofs.lemmas.Bool.{false≢true}
 use Rattle.collate_lines.specs.declared.rule.Rule.TheVariants.{Grammar, V14}
 use Rattle.collate_lines.specs.Record.{said}
