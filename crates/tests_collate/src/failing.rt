@@ -77,13 +77,13 @@ impl Write for FailingWriter<'_> {
 pub(crate) fn assert_ended(
     rt: &impl Abort,
     calls: usize,
-    result: Result<(), RunFault>,
+    ended: Result<(), RunFault>,
     fault: RunFault,
     written: &[u8],
     replies: &[u8],
     bytes: usize,
 ) {
-    assert_same!(rt; result, Err(fault); calls);
+    assert_same!(rt; ended, Err(fault); calls);
     let wanted = replies.get(..bytes).unwrap_or(b"");
     assert_same!(rt; written.len(), bytes; calls);
     assert_same!(rt; *written, *wanted; calls);
