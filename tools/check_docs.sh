@@ -7,6 +7,7 @@
 #   a table of rules in docs/RECORDS.md that isn't docs/rules.tsv, a picture that isn't that of its figures
 #   a word of ./collate or ./sort_names that its manual page leaves out, a version that CHANGELOG.md or README.md lacks
 #   a line on a word in the help of the program sort_names that the script's help doesn't have
+#   an edit whose old text doesn't stand once in its file (tools/edits_stand.py)
 #   a call that docs/PROMISES.md doesn't list with what it asks of callers, or lists otherwise (tools/asked_of_callers.py)
 set -eu
 cd "$(dirname "$(readlink -f "${BASH_SOURCE[0]}")")/.."
@@ -162,5 +163,6 @@ check_help
 check_limits
 check_copies
 check_version
+edits=$(tools/edits_stand.py) || complain "$edits"
 tools/asked_of_callers.py --check || status=1
 exit "$status"
