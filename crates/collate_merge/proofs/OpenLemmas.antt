@@ -6,8 +6,8 @@ use Rattle.std.proofs.lemmas.List.{get_or-map, get_or_append_left, length-map}
 use Rattle.collate_merge.specs.Lines.{lines_in}
 use Rattle.collate_merge.specs.Merges.{HaveLeft, IsTrueOf, Merge, parts_of}
 use Rattle.collate_merge.specs.Sources.{AreLeft, HasLeft, IsOfReading}
-use Rattle.collate_merge.specs.declared.merge.MergeError.{MergeError}
-use Rattle.collate_merge.specs.declared.merge.MergeError.TheVariants.{Memory, Read, TooManyLines, Unordered, Write}
+use Rattle.collate_merge.specs.declared.errors.MergeError.{MergeError}
+use Rattle.collate_merge.specs.declared.errors.MergeError.TheVariants.{Memory, Read, TooManyLines, Unordered, Write}
 use Rattle.collate_merge.specs.declared.sources.Source.{Source}
 
 -- the first so many readers are open: of each all lines are left

@@ -16,8 +16,8 @@ use Rattle.collate_merge.specs.Merged.{StartsAbove, StartsUpto, ordered_part}
 use Rattle.collate_merge.specs.Merges.{IsTrueOf, Merge, order_in, parts_of, text_of}
 use Rattle.collate_merge.specs.Sources.{AreLeft, Goes, HasLeft, HasLine, IsFaultAt, IsOutput, Merges, source_order}
 use Rattle.collate_merge.specs.Written.{all_written, last_behind, written_of}
-use Rattle.collate_merge.specs.declared.merge.MergeError.{MergeError}
-use Rattle.collate_merge.specs.declared.merge.MergeError.TheVariants.{Memory, Read, TooManyLines, Unordered, Write}
+use Rattle.collate_merge.specs.declared.errors.MergeError.{MergeError}
+use Rattle.collate_merge.specs.declared.errors.MergeError.TheVariants.{Memory, Read, TooManyLines, Unordered, Write}
 use Rattle.collate_merge.specs.declared.output.Output.{Output}
 use Rattle.collate_merge.specs.declared.sources.Source.{Source}
 use Rattle.collate_merge.proofs.KeyLemmas.{keys_tell, order_total}

@@ -14,7 +14,7 @@ use Rattle.collate_merge.specs.Lines.{ReadsLine, lines_in, reader_inside, separa
 use Rattle.collate_merge.specs.Merged.{StartsUpto}
 use Rattle.collate_merge.specs.Merges.{Merge, order_in}
 use Rattle.collate_merge.specs.Sources.{HasLeft, HasLine, IsBehind, IsFaultAt}
-use Rattle.collate_merge.specs.declared.merge.MergeError.TheVariants.{Unordered}
+use Rattle.collate_merge.specs.declared.errors.MergeError.TheVariants.{Unordered}
 use Rattle.collate_merge.specs.declared.sources.Source.{Source}
 use Rattle.collate_merge.proofs.KeyLemmas.{keys_tell}
 

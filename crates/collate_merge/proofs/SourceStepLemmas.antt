@@ -7,7 +7,7 @@ use Rattle.collate_merge.specs.Least.{IsLeast}
 use Rattle.collate_merge.specs.Lines.{lines_in}
 use Rattle.collate_merge.specs.Merges.{Merge}
 use Rattle.collate_merge.specs.Sources.{Goes, HasLine, Merges, source_order}
-use Rattle.collate_merge.specs.declared.merge.MergeError.{MergeError}
+use Rattle.collate_merge.specs.declared.errors.MergeError.{MergeError}
 use Rattle.collate_merge.specs.declared.output.Output.{Output}
 use Rattle.collate_merge.specs.declared.sources.Source.{Source}
 use Rattle.collate_merge.proofs.ProgressLemmas.{Progress, least_line, progress_cut, progress_more}

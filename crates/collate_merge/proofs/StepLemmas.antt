@@ -9,7 +9,7 @@ use Rattle.collate_merge.specs.Merges.{Merge, order_in, text_of}
 use Rattle.collate_merge.specs.Sending.{Sends}
 use Rattle.collate_merge.specs.Sources.{Advances, Goes, IsOutput, key_in, source_order}
 use Rattle.collate_merge.specs.Written.{last_behind, written_of}
-use Rattle.collate_merge.specs.declared.merge.MergeError.{MergeError}
+use Rattle.collate_merge.specs.declared.errors.MergeError.{MergeError}
 use Rattle.collate_merge.specs.declared.output.Output.{Output}
 use Rattle.collate_merge.specs.declared.sources.Source.{Source}
 use Rattle.collate_merge.proofs.SendingLemmas.{always, sends-all, sent-all}

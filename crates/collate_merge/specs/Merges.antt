@@ -8,8 +8,8 @@ use Rattle.collate_keyed_lines.specs.KeyedLines.{AreInOrder, IsFirstUnordered}
 use Rattle.collate_sort.specs.Orders.{Line, LineRule, line_order}
 use Rattle.collate_merge.specs.Lines.{lines_in}
 use Rattle.collate_merge.specs.Merged.{merged, ordered_parts_merged}
-use Rattle.collate_merge.specs.declared.merge.MergeError.{MergeError}
-use Rattle.collate_merge.specs.declared.merge.MergeError.TheVariants.{Read, Unordered}
+use Rattle.collate_merge.specs.declared.errors.MergeError.{MergeError}
+use Rattle.collate_merge.specs.declared.errors.MergeError.TheVariants.{Read, Unordered}
 
 -- by which rule lines compare, what of them is compared, whether of equal ones the first alone is wanted, and what ends a line
 pub record Merge : Type 0 where

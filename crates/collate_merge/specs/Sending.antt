@@ -1,8 +1,8 @@
 -- bytes sent to a writer
 use Rattle.std.specs.Prelude.{◌≡◌, ℕ, Option, Result, OnOk, List, [], ◌++◌, ⊤}
 use Rattle.std.specs.Io.KnownBytes.{Appends}
-use Rattle.collate_merge.specs.declared.merge.MergeError.{MergeError}
-use Rattle.collate_merge.specs.declared.merge.MergeError.TheVariants.{Memory, Write}
+use Rattle.collate_merge.specs.declared.errors.MergeError.{MergeError}
+use Rattle.collate_merge.specs.declared.errors.MergeError.TheVariants.{Memory, Write}
 
 -- a writer got a first part of these bytes, and all of them at `Ok`
 pub record Sends {T E : Type 0} (result : Result T E) (old new : Option (List ℕ)) (bytes : List ℕ) : Type 0 where

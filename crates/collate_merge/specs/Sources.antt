@@ -13,8 +13,8 @@ use Rattle.collate_merge.specs.Merged.{StartsUpto}
 use Rattle.collate_merge.specs.Merges.{GotFirstPart, IsOrdered, IsTrueOf, Merge, merged_text, order_in, ordered_text, text_of}
 use Rattle.collate_merge.specs.Sending.{Sends}
 use Rattle.collate_merge.specs.Written.{last_behind, written_of}
-use Rattle.collate_merge.specs.declared.merge.MergeError.{MergeError}
-use Rattle.collate_merge.specs.declared.merge.MergeError.TheVariants.{Read, Unordered, Write}
+use Rattle.collate_merge.specs.declared.errors.MergeError.{MergeError}
+use Rattle.collate_merge.specs.declared.errors.MergeError.TheVariants.{Read, Unordered, Write}
 use Rattle.collate_merge.specs.declared.output.Output.{Output}
 use Rattle.collate_merge.specs.declared.sources.Source.{Source}
 

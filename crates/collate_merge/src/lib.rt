@@ -4,6 +4,7 @@
 
 pub mod column;
 mod compare;
+mod errors;
 pub mod laws;
 pub mod lines;
 pub mod merge;

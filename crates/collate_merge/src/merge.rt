@@ -5,34 +5,13 @@ ghost use Rattle.std.specs.Io.KnownBytes.{Appends};
 ghost use Rattle.collate_merge.specs.Merges.{GotFirstPart, HaveLeft, IsOrdered, IsTrueOf, Merge, merge_of, merged_text, ordered_text, parts_of};
 ghost use Rattle.collate_merge.specs.Sources.{AreLeft, Goes, HasLine, IsOutput, Merges};
 
+pub use crate::errors::MergeError;
 use crate::output::Output;
 use crate::part::LinePart;
 use crate::sources::{Source, least};
 use collate_sort::order::LineOrder;
 use std::alloc::Global;
-use std::io::{self, BufRead, Write};
-use thiserror::Error;
-
-/// Why readers weren't merged to their ends.
-#[derive(Debug, Drop, Error)]
-pub enum MergeError {
-    /// A reader failed: which one, counted from 0, and how.
-    #[error("reader {reader}: {error}")]
-    Read { reader: usize, error: io::Error },
-    /// The writer failed, or took no byte.
-    #[error("{0}")]
-    Write(io::Error),
-    /// A reader isn't in order: which one, counted from 0, and its first line, counted from 1, that is below the one
-    /// before it.
-    #[error("reader {reader}: line {line} isn't in order")]
-    Unordered { reader: usize, line: usize },
-    /// Memory was refused.
-    #[error("out of memory")]
-    Memory,
-    /// There are more lines than 2^64 - 1.
-    #[error("too many lines")]
-    TooManyLines,
-}
+use std::io::{BufRead, Write};
 
 /// Writes the lines of readers, each of which is in order, in order: equal lines in the order of the readers, and then
 /// as they stood. Compared is that part of a line, by the order; a line ends at a separator, the last one

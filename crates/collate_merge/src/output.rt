@@ -11,7 +11,7 @@ ghost use Rattle.collate_merge.specs.Sources.{IsOutput, KeepsKey, key_in};
 ghost use Rattle.collate_merge.specs.Written.{last_behind, written_of};
 
 use crate::compare::is_same;
-use crate::merge::MergeError;
+use crate::errors::MergeError;
 use crate::writing::write_line;
 use collate_keyed_lines::direction::Direction;
 use std::alloc::Global;

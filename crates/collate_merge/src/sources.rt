@@ -7,8 +7,8 @@ ghost use Rattle.collate_merge.specs.Merges.{Merge};
 ghost use Rattle.collate_merge.specs.Sources.{Advances, HasLeft, HasLine, IsBehind, IsOfReading, source_order};
 
 use crate::compare::is_above;
+use crate::errors::MergeError;
 use crate::lines::{LineReader, ReadLineError};
-use crate::merge::MergeError;
 use crate::part::LinePart;
 use collate_keyed_lines::direction::Direction;
 use collate_sort::order::LineOrder;

@@ -3,7 +3,7 @@
 ghost use Rattle.std.specs.Prelude.{◌∷◌, ◌++◌, [], IfErr};
 ghost use Rattle.collate_merge.specs.Sending.{IsOfWriting, Sends};
 
-use crate::merge::MergeError;
+use crate::errors::MergeError;
 use std::io::{ErrorKind, Write};
 
 /// Writes a line and what ends it, as `write_whole` does.

@@ -6,7 +6,7 @@ use Rattle.collate_merge.specs.Written.{written_of}
 use Rattle.collate_merge.proofs.OutputLemmas.{again_last, again_text, first_last, first_text, plain_last, plain_text}
 use Rattle.collate_merge.proofs.SendingLemmas.{always, sends-none, sends-nothing}
 use Rattle.collate_merge.proofs.output.Output.put.Goals as goal
-use Rattle.collate_merge.specs.declared.merge.MergeError.{MergeError}
+use Rattle.collate_merge.specs.declared.errors.MergeError.{MergeError}
 
 pub returns-then-not-self-clause-sent : goal.returns-then-not-self-clause-sent
 returns-then-not-self-clause-sent g c = λ m last accepted kept key_is.
