@@ -3,7 +3,7 @@ use Rattle.std.specs.Prelude.{◌≡◌, ℕ, ◌+◌, ◌≤◌, List, Option, 
 use Rattle.std.specs.Iterator.{Count}
 use Rattle.icu_normalizer_core.specs.Decompositions.{DecomposesTo, CanDecompose, decomposition_size, IsFinished as IsDecompositionFinished}
 use Rattle.icu_normalizer_core.specs.Iter.{YieldsFirstOk, EndsOnce}
-use Rattle.icu_normalizer.specs.declared.composing.Composition.{Composition}
+use Rattle.icu_normalizer.specs.declared.composing.characters.Composition.{Composition}
 use Rattle.icu_normalizer.specs.Composer.{coming, waiting}
 
 -- these characters are still to come, unless memory runs out

@@ -6,11 +6,10 @@ ghost use Rattle.icu_normalizer.specs.Sinks.{AddsPrefix, EndsByFailure};
 ghost use Rattle.icu_normalizer.specs.TextCuts.{IsTextSplit};
 ghost use Rattle.icu_normalizer.specs.Texts.{IsUndamaged};
 
-mod held;
+pub(crate) mod held;
 
 use crate::sinks::{NormError, TextSink};
 use crate::text_sources::{Text, WriteTo, valid_text};
-pub(crate) use held::{normal_bytes, normal_text, normal_units};
 use std::alloc::{AllocError, Global};
 
 /// A normaliser, which writes texts of any encoding in its form.

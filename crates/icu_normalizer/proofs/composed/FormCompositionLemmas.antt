@@ -3,7 +3,7 @@ use Rattle.std.proofs.Common.{◌≡◌, ℕ, List, [], ◌∷◌, ◌++◌, Opt
 use Rattle.icu_normalizer_core.specs.Canonical.{Canonical, recomposed, decomposed, composed}
 use Rattle.icu_normalizer_core.specs.Decompositions.{DecomposesTo}
 use Rattle.icu_normalizer_core.specs.Iter.{IsFirstOf, KeepsLeft}
-use Rattle.icu_normalizer.specs.declared.composing.Composition.{Composition}
+use Rattle.icu_normalizer.specs.declared.composing.characters.Composition.{Composition}
 use Rattle.icu_normalizer.specs.Composer.{data_of, coming, IsIdle, KeepsComposed}
 use Rattle.icu_normalizer.specs.Compositions.{ComposesTo}
 use Rattle.icu_normalizer.proofs.composed.ComposerLemmas.{coming_idle}

@@ -17,7 +17,7 @@ mod encodings;
 mod splits;
 mod written;
 
-use super::Composition;
+use super::characters::Composition;
 use super::cluster_form::ClusterForm;
 use super::cuts::{split, split_low};
 use super::lone_mark::{lone_mark, write_lone};

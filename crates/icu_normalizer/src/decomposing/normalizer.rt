@@ -16,7 +16,6 @@ mod encodings;
 mod splits;
 mod written;
 
-use super::Decomposition;
 use super::cuts::split;
 use super::writer::Writer;
 use crate::form_notes::FormNote;
@@ -24,7 +23,7 @@ use crate::sinks::{NormError, TextSink};
 use crate::text_sources::{Text, WriteTo};
 use crate::written::{WriteForm, write_form};
 use icu_normalizer_core::canonical::CanonicalBorrowed;
-use icu_normalizer_core::decomposition::FormData;
+use icu_normalizer_core::decomposition::{Decomposition, FormData};
 use std::alloc::{AllocError, Global};
 
 /// A normaliser to NFD or NFKD (UAX 15), borrowed. What its calls say of NFD is said of NFKD where it is one to NFKD.

@@ -7,7 +7,7 @@ ghost use Rattle.icu_normalizer_core.specs.Loading.{loaded};
 ghost use Rattle.icu_normalizer_core.specs.declared.provider.error.DataError.TheVariants.{Memory};
 ghost use Rattle.icu_normalizer.specs.NormalizerTables.{loaded_tables, tables_meaning, tables_bound, IsMadeOfCanonical, IsMadeOfBoth};
 
-use super::DecomposingNormalizerBorrowed;
+use super::normalizer::DecomposingNormalizerBorrowed;
 use crate::owned_data::{NotedData, OwnedData};
 use icu_normalizer_core::provider::{DataError, NormalizerProvider};
 use std::alloc::Global;

@@ -5,7 +5,7 @@ ghost use Rattle.icu_normalizer_core.specs.Decoding.{utf8_chars};
 ghost use Rattle.icu_normalizer.specs.Encodings.{utf8_encoding};
 ghost use Rattle.icu_normalizer.specs.Texts.{utf8_text, BeginsWith, IsUndamaged};
 
-use super::Text;
+use super::text::Text;
 use bstr::decode_utf8;
 use simdutf8::basic::from_utf8;
 

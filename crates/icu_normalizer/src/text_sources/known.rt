@@ -4,8 +4,8 @@ ghost use Rattle.std.specs.Prelude.{encode_utf8_all};
 ghost use Rattle.icu_normalizer.specs.Encodings.{utf8_encoding};
 ghost use Rattle.icu_normalizer.specs.Texts.{str_text};
 
-use super::Text;
 use super::bytes::plain_bytes;
+use super::text::Text;
 
 impl<'t> Text for &'t str {
     ghost spelled = { λ text. str_text text.now };

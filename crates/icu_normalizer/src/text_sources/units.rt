@@ -5,7 +5,7 @@ ghost use Rattle.std.specs.Char.Utf16.{is_high_surrogate, is_low_surrogate, surr
 ghost use Rattle.icu_normalizer.specs.Encodings.{utf16_encoding};
 ghost use Rattle.icu_normalizer.specs.Texts.{utf16_text, encode_utf16_all};
 
-use super::Text;
+use super::text::Text;
 use icu_normalizer_core::decoding::decode_utf16;
 
 impl<'t> Text for &'t [u16] {

@@ -6,7 +6,8 @@ ghost use Rattle.icu_normalizer.specs.Texts.{IsUndamaged, encode_utf16_all};
 
 mod several;
 
-use super::{Text, known_text};
+use super::bytes::known as known_text;
+use super::text::Text;
 use crate::sinks::{NormError, TextSink, UnitSink};
 use several::{write_text_chars, write_unit_chars};
 use std::alloc::{AllocError, Global};

@@ -5,7 +5,7 @@ ghost use Rattle.std.specs.Iterator.{IsFinite, size};
 ghost use Rattle.icu_normalizer_core.specs.Canonical.{composed};
 ghost use Rattle.icu_normalizer_core.specs.Iter.{Spells};
 ghost use Rattle.icu_normalizer.specs.Uts46.{mapped, validated, mapped_with};
-ghost use Rattle.icu_normalizer.specs.Uts46Texts.{mapper_data, mapper_table, Gives, CanGive, uts46_size};
+ghost use Rattle.icu_normalizer.specs.Uts46Texts.{borrowed_mapper, mapper_data, mapper_table, Gives, CanGive, uts46_size};
 
 use super::iter::Uts46Iter;
 use super::mapped_characters::MappedChars;
@@ -17,6 +17,15 @@ use std::alloc::Global;
 #[derive(Clone, Copy, Debug)]
 pub struct Uts46MapperBorrowed<'d> {
     pub(super) mapper: &'d Uts46Mapper<'d>,
+}
+
+impl<'a> Uts46Mapper<'a> {
+    /// The same, borrowed: that has the calls.
+    pub fn as_borrowed(&self) -> Uts46MapperBorrowed<'_>
+        ensures { borrowed_mapper result ≡ self.now }
+    {
+        Uts46MapperBorrowed { mapper: self }
+    }
 }
 
 impl<'d> Uts46MapperBorrowed<'d> {

@@ -6,9 +6,7 @@ ghost use Rattle.icu_normalizer_core.specs.declared.provider.error.DataError.The
 ghost use Rattle.icu_normalizer_core.specs.declared.provider.error.TableName.TheVariants.{Uts46};
 ghost use Rattle.icu_normalizer.specs.Uts46.{IsMapperTable};
 ghost use Rattle.icu_normalizer.specs.Uts46Loading.{MapperMemoryAside};
-ghost use Rattle.icu_normalizer.specs.Uts46Texts.{borrowed_mapper};
 
-use super::borrowed::Uts46MapperBorrowed;
 use super::table::MapperTable;
 use icu_normalizer_core::canonical::CanonicalData;
 use icu_normalizer_core::provider::{
@@ -43,13 +41,6 @@ impl<'a> Model for Uts46Mapper<'a> {
 }
 
 impl<'a> Uts46Mapper<'a> {
-    /// The same, borrowed: that has the calls.
-    pub fn as_borrowed(&self) -> Uts46MapperBorrowed<'_>
-        ensures { borrowed_mapper result ≡ self.now }
-    {
-        Uts46MapperBorrowed { mapper: self }
-    }
-
     /// A mapper over a provider's tables. The answer is the first refusal, if there is one: of `load_nfd`, of
     /// `load_nfd_tables`, of `load_pairs`, of `load_uts46`, then of `CanonicalData::try_new`; then
     /// `Invalid(TableName::Uts46)`, where a character has no word in the mapper table, a word of none of the forms, or one

@@ -10,7 +10,7 @@ ghost use Rattle.icu_normalizer.specs.TextCuts.{IsOwnText};
 use super::super::cuts::{rest_to_change, split};
 use super::DecomposingNormalizerBorrowed;
 use crate::text_sources::Text;
-use crate::written::normal_text;
+use crate::written::held::normal_text;
 use std::alloc::{AllocError, Global};
 use std::borrow::CowStr;
 

@@ -10,7 +10,8 @@ ghost use Rattle.icu_normalizer.specs.Texts.{utf8_text, utf16_text, encode_utf16
 
 use super::DecomposingNormalizerBorrowed;
 use crate::sinks::{NormError, TextSink, UnitSink};
-use crate::written::{normal_bytes, normal_units, write_bytes, write_form};
+use crate::written::held::{normal_bytes, normal_units};
+use crate::written::{write_bytes, write_form};
 use std::alloc::{AllocError, Global};
 use std::borrow::{CowSlice, CowStr};
 

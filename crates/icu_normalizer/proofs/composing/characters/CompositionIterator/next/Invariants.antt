@@ -2,7 +2,7 @@ use Rattle.std.proofs.Common.{◌≡◌, ◌≤◌, [], false}
 use Rattle.icu_normalizer_core.specs.Decompositions.{decomposition_size}
 use Rattle.icu_normalizer_core.specs.Iter.{KeepsLeft}
 use Rattle.icu_normalizer.specs.Compositions.{ComposesTo, CanCompose, IsFinished, composition_size}
-use Rattle.icu_normalizer.proofs.composing.CompositionIterator.next.Given as goal
+use Rattle.icu_normalizer.proofs.composing.characters.CompositionIterator.next.Given as goal
 
 abbrev pub invariant-loop-item : goal.invariant-loop-item
 invariant-loop-item g l =

@@ -2,7 +2,7 @@ use Rattle.std.proofs.Common.{[], ◌∷◌, refl, subst, ◌∙◌, arith}
 use Rattle.icu_normalizer_core.proofs.decomposed_lists.IterLemmas.{keeps_then, ended_not, ends_item, ends_error, ends_last}
 use Rattle.icu_normalizer.specs.Compositions.{ComposesTo, IsFinished}
 use Rattle.icu_normalizer.proofs.composed.FormCompositionLemmas.{composes_stop, keeps_popped, keeps_pushed, finished}
-use Rattle.icu_normalizer.proofs.composing.CompositionIterator.next.Goals as goal
+use Rattle.icu_normalizer.proofs.composing.characters.CompositionIterator.next.Goals as goal
 
 pub returns-in-Some-clause-steps : goal.returns-in-Some-clause-steps
 returns-in-Some-clause-steps g c =
