@@ -226,6 +226,12 @@ impl<'a> CheckedTables<'a> {
         Some(note)
     }
 
+    /// Whether prefixes are recorded with characters from U+0800 on. It takes one read.
+    #[inline(always)]
+    pub fn are_high_prefixed(&self) -> bool {
+        self.pairs.are_high_prefixed()
+    }
+
     /// What is noted of two characters that stand together; `None` of most.
     #[inline(always)]
     pub(crate) fn pair(&self, first: char, second: char) -> Option<&PairNote>

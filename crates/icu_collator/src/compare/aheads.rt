@@ -99,7 +99,7 @@ fn read_ahead<I: PeekLow + Drop>(
     ensures finite { IfSome result (λ text. IsFinite (I.remaining text.chars)) }
 {
     let read = checked.flat_primaries(numeric, c, class)?;
-    if read.class < 256 {
+    if read.class < 256 && !checked.are_high_prefixed() {
         return Some(Ahead {
             chars: chars.again(),
             held: None,
@@ -114,6 +114,13 @@ fn read_ahead<I: PeekLow + Drop>(
             read,
         });
     };
+    if read.class < 256 && !checked.may_join(next) {
+        return Some(Ahead {
+            chars: rest,
+            held: Some(next),
+            read,
+        });
+    }
     match checked.pair_primaries(c, next) {
         Some(pair) => Some(Ahead {
             chars: rest,

@@ -30,7 +30,7 @@ pub(super) enum Meeting {
 }
 
 /// What the next primaries say, each as it is before reordering, by these as they are reordered.
-#[inline(never)]
+#[inline(always)]
 fn meet_reordered(checked: &CheckedTables<'_>, first: u32, second: u32) -> Meeting
     ensures { IsMeeting checked.now (Primary first) (Primary second) result }
 {
@@ -127,7 +127,7 @@ fn next_primary<I: Iterator<Item = char> + Drop>(
 
 /// Whether two texts that were read to what comes next in both part there: whether what they were read to stands, whatever else
 /// they hold.
-#[inline(never)]
+#[inline(always)]
 fn part<I: Iterator<Item = char> + Drop, J: Iterator<Item = char> + Drop>(
     checked: &CheckedTables<'_>,
     numeric: Option<u8>,

@@ -57,8 +57,8 @@ fn short_char(bytes: &[u8]) -> Option<(char, &[u8])>
 }
 
 /// The first character where three bytes spell it. `None` says nothing. (The length is asked once for all three: the parts then
-/// come without a question, and a call takes 29 instructions in place of 43.)
-#[inline(never)]
+/// come without a question.)
+#[inline]
 fn three_byte_char(bytes: &[u8]) -> Option<char>
     ensures spelled { IfSome result (λ c. utf8_chars bytes.now ≡ c ∷ utf8_chars (drop 3 bytes.now)) }
     ensures within { IfSome result (λ _. 3 ≤ length bytes.now) }

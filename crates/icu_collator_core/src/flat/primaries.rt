@@ -130,6 +130,10 @@ impl CheckedTables<'_> {
     pub fn flat_primaries(&self, numeric: Option<u8>, c: char, before: u32) -> Option<NextPrimaries>
         ensures { IfSome result (λ next. HasPrimaries self.now numeric c before next) }
     {
+        if let Some(note) = self.flat_note(c) {
+            let next = note.primaries(numeric, before)?;
+            return Some(next);
+        }
         if let Some(note) = self.paged_note(c) {
             let next = note.primaries(numeric, before)?;
             return Some(next);
@@ -137,15 +141,11 @@ impl CheckedTables<'_> {
         self.find_primaries(numeric, c, before)
     }
 
-    /// The same of a character in no page.
+    /// The same of a character after the low ones, in no page.
     #[inline(never)]
     fn find_primaries(&self, numeric: Option<u8>, c: char, before: u32) -> Option<NextPrimaries>
         ensures { IfSome result (λ next. HasPrimaries self.now numeric c before next) }
     {
-        if let Some(note) = self.flat_note(c) {
-            let next = note.primaries(numeric, before)?;
-            return Some(next);
-        }
         if is_syllable(c as u32) {
             return self.syllable_primaries(numeric, c, before);
         }

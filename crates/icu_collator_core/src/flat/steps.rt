@@ -120,6 +120,15 @@ impl FlatNote {
 }
 
 impl FlatNote {
+    /// Whether nothing is noted.
+    #[inline(always)]
+    fn is_none(&self) -> bool {
+        match *self {
+            FlatNote::Other => true,
+            _ => false,
+        }
+    }
+
     /// Whether no reading may begin at the character, or a boundary has to follow, as far as is noted.
     #[inline(always)]
     fn is_dependent(&self) -> bool {
@@ -141,6 +150,16 @@ impl CheckedTables<'_> {
     pub fn is_noted_dependent(&self, c: char) -> bool {
         match self.paged_note(c) {
             Some(note) => note.is_dependent(),
+            None => false,
+        }
+    }
+
+    /// Whether a character may be read together with one before it after which anything may stand: its page notes nothing of it alone.
+    /// `false` for some that may. It takes two reads and no memory.
+    #[inline(always)]
+    pub fn may_join(&self, c: char) -> bool {
+        match self.paged_note(c) {
+            Some(note) => note.is_none(),
             None => false,
         }
     }
@@ -176,7 +195,7 @@ impl CheckedTables<'_> {
     }
 
     /// The same of a character after the low ones.
-    #[inline(never)]
+    #[inline(always)]
     fn find_flat_primary(&self, numeric: Option<u8>, c: char, before: u32) -> Option<(u32, u32)>
         ensures { IfSome result (λ step. StepsTo self.now numeric c before step.0 step.1) }
     {

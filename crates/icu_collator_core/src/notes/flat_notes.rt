@@ -15,7 +15,7 @@ use icu_collator_types::elements::CollationElement;
 use std::alloc::{AllocError, Global};
 
 /// The characters of which there are notes end before this one: all of one or two bytes in UTF-8 have one.
-const FLAT_END: u32 = 0x800;
+pub(super) const FLAT_END: u32 = 0x800;
 
 /// Whether a character is special, or a dot above that may be dropped.
 pub(super) fn is_kept_apart(sound: &SoundTables<'_>, c: char) -> bool

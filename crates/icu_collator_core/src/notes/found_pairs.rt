@@ -1,5 +1,5 @@
-//! What is to be noted of characters that stand together, of which the first begins recorded texts or the second has recorded prefixes:
-//! found once for all.
+//! What is to be noted of characters that stand together, of which the first begins recorded texts or the second has recorded prefixes,
+//! or both are low: found once for all.
 
 ghost use Rattle.std.specs.Prelude.{◌≡◌, ◌∷◌, ℕ, All, List, [], IfOk, None, OnOk, Some, false, is_some, true};
 ghost use Rattle.icu_collator_core.specs.ElementLists.{unpacked};
@@ -13,7 +13,7 @@ ghost use Rattle.icu_collator_core.specs.declared.reading.suffixes.LongerText.{L
 
 use super::boundaries::is_boundary;
 use super::flat_note::{BEFORE_BOUNDARY, FlatNote};
-use super::flat_notes::is_kept_apart;
+use super::flat_notes::{FLAT_END, is_kept_apart};
 use super::pages::NotePage;
 use super::pairs::{PairNote, PairNotes};
 use crate::reading::checked_words::checked_word;
@@ -28,6 +28,15 @@ use std::alloc::{AllocError, Global};
 
 /// How many pairs are tried at the most, so that no tables take long.
 const MOST_TRIED: usize = 100_000;
+
+/// As many looks at recorded prefixes count as a pair that is tried.
+const LOOKS_A_TRY: usize = 16;
+
+/// The low characters end before this one: the Latin alphabets are among them.
+const LOW_END: u32 = 0x250;
+
+/// How many low characters are tried at the most with each low one, whether texts that begin with that go on with them or not.
+const MOST_LOW: usize = 16;
 
 impl CountingWord<'_> {
     /// Whether no text that begins with the character of the word and this one goes on.
@@ -80,6 +89,14 @@ fn goes_on(trie: &Char16Trie<'_>, code: u32) -> bool {
             let mut cursor = trie.iter();
             !matches!(cursor.next(c), TrieResult::NoMatch)
         }
+        None => false,
+    }
+}
+
+/// Whether with the character of a code a prefix is recorded that ends with this one.
+fn is_behind(sound: &SoundTables<'_>, last: char, code: u32) -> bool {
+    match char::from_u32(code) {
+        Some(c) => checked_word(sound, c).has_prefix_with(last),
         None => false,
     }
 }
@@ -280,91 +297,126 @@ fn push_joined(
     Ok(())
 }
 
-/// Appends what is to be noted of a character with each that joins it or has prefixes, and answers how many were tried. Fails only
-/// if memory is refused.
+/// Appends what is to be noted of a character with each of some others and with each that joins it, and answers how many were tried.
+/// Fails only if memory is refused.
 fn push_pairs(
     alloc: Global,
     sound: &SoundTables<'_>,
     first: char,
     seconds: &[u32],
-    prefixed: &[u32],
+    others: &[u32],
     pairs: &mut Vec<PairNote>,
 ) -> Result<usize, AllocError>
     requires { All (IsPairNote sound.now) pairs.old.items }
     ensures { OnOk result (All (IsPairNote sound.now) pairs.new.items) }
 {
-    for code in prefixed {
+    for code in others {
         push_pair(alloc, sound, first, *code, pairs)?;
     }
     match checked_word(sound, first).suffixes() {
         Some(trie) => {
             push_joined(alloc, sound, first, &trie, seconds, pairs)?;
-            Ok(seconds.len().saturating_add(prefixed.len()))
+            Ok(seconds.len().saturating_add(others.len()))
         }
-        None => Ok(prefixed.len()),
+        None => Ok(others.len()),
     }
 }
 
-/// Those of some characters with which prefixes are recorded. Fails only if memory is refused.
-fn prefixed_among(
+/// Those of some characters with which prefixes are recorded, and so many of the low ones, the first. Fails only if memory is
+/// refused.
+fn prefixed_or_low(
     alloc: Global,
     sound: &SoundTables<'_>,
     codes: &[u32],
+    low: usize,
 ) -> Result<Vec<u32>, AllocError> {
-    let mut prefixed = Vec::new(alloc);
+    let mut chosen = Vec::new(alloc);
     for code in codes {
-        if let Some(c) = char::from_u32(*code) {
+        if *code < LOW_END && chosen.len() < low {
+            chosen.push(*code)?;
+        } else if let Some(c) = char::from_u32(*code) {
             if !checked_word(sound, c).is_unprefixed() {
-                prefixed.push(*code)?;
+                chosen.push(*code)?;
             }
         }
     }
-    Ok(prefixed)
+    Ok(chosen)
 }
 
-/// Whether after the character of a code a boundary has to follow, as far as these notes tell: of the low characters, and in pages.
-fn asks_boundary(flat: &[FlatNote], pages: &[NotePage], code: u32) -> bool {
+/// Whether a code is from U+0800 on.
+fn is_any_high(codes: &[u32]) -> bool {
+    for code in codes {
+        if *code >= FLAT_END {
+            return true;
+        }
+    }
+    false
+}
+
+/// Those that are tried with the character of a code: these, or these with low ones.
+fn tried_with<'o>(code: u32, prefixed: &'o [u32], with_low: &'o [u32]) -> &'o [u32] {
+    if code < LOW_END { with_low } else { prefixed }
+}
+
+/// What is noted of the character of a code: of a low one, or in pages.
+fn noted<'n>(flat: &'n [FlatNote], pages: &'n [NotePage], code: u32) -> Option<&'n FlatNote> {
     let code = code as usize;
-    if let Some(note) = flat.get(code) {
-        return note.asks_boundary();
-    }
-    match pages.get(code / 64) {
-        Some(page) => match page.get(code % 64) {
-            Some(note) => note.asks_boundary(),
-            None => false,
-        },
-        None => false,
+    match flat.get(code) {
+        Some(note) => Some(note),
+        None => pages.get(code / 64)?.get(code % 64),
     }
 }
 
-/// Appends what is to be noted of the character of a code with others, if it is one after which a boundary has to follow, and answers
-/// how many were tried. Fails only if memory is refused.
+/// Appends what is to be noted of a character with those of others that have a recorded prefix which ends with it. Fails only if memory
+/// is refused.
+fn push_behind(
+    alloc: Global,
+    sound: &SoundTables<'_>,
+    first: char,
+    others: &[u32],
+    pairs: &mut Vec<PairNote>,
+) -> Result<(), AllocError>
+    requires { All (IsPairNote sound.now) pairs.old.items }
+    ensures { OnOk result (All (IsPairNote sound.now) pairs.new.items) }
+{
+    for code in others {
+        if is_behind(sound, first, *code) {
+            push_pair(alloc, sound, first, *code, pairs)?;
+        }
+    }
+    Ok(())
+}
+
+/// Appends what is to be noted of the character of a code with others, where anything is noted of it alone, and answers how many were
+/// tried. Fails only if memory is refused.
 fn push_of(
     alloc: Global,
     sound: &SoundTables<'_>,
     code: u32,
-    asks: bool,
+    note: Option<&FlatNote>,
     seconds: &[u32],
-    prefixed: &[u32],
+    others: &[u32],
     pairs: &mut Vec<PairNote>,
 ) -> Result<usize, AllocError>
     requires { All (IsPairNote sound.now) pairs.old.items }
     ensures { OnOk result (All (IsPairNote sound.now) pairs.new.items) }
 {
-    if !asks {
+    let Some(note) = note else {
         return Ok(0);
+    };
+    let Some(first) = char::from_u32(code) else {
+        return Ok(0);
+    };
+    if note.asks_boundary() {
+        let tried = push_pairs(alloc, sound, first, seconds, others, pairs)?;
+        return Ok(tried);
     }
-    match char::from_u32(code) {
-        Some(first) => {
-            let tried = push_pairs(alloc, sound, first, seconds, prefixed, pairs)?;
-            Ok(tried)
-        }
-        None => Ok(0),
-    }
+    push_behind(alloc, sound, first, others, pairs)?;
+    Ok(others.len() / LOOKS_A_TRY)
 }
 
-/// The notes of pairs whose first characters have a note after which a boundary has to follow, and whose second are unsafe by what is
-/// recorded, as far as not too many are tried. Fails only if memory is refused.
+/// The notes of pairs whose second characters are unsafe by what is recorded, and whose first have a note after which a boundary has to
+/// follow, or end a prefix that is recorded with the second; as far as not too many are tried. Fails only if memory is refused.
 pub(crate) fn pair_notes(
     alloc: Global,
     sound: &SoundTables<'_>,
@@ -374,18 +426,20 @@ pub(crate) fn pair_notes(
     ensures { IfOk result (λ notes. ArePairNotes sound.now notes) }
 {
     let seconds = sound.unsafe_characters();
-    let prefixed = prefixed_among(alloc, sound, seconds)?;
+    let prefixed = prefixed_or_low(alloc, sound, seconds, 0)?;
+    let with_low = prefixed_or_low(alloc, sound, seconds, MOST_LOW)?;
     let mut pairs = Vec::new(alloc);
     let mut tried = 0usize;
     for code in 0..0x1_0000 {
         if tried >= MOST_TRIED {
             break;
         }
-        let asks = asks_boundary(flat, pages, code);
-        let prefixes = prefixed.as_slice();
-        let more = push_of(alloc, sound, code, asks, seconds, prefixes, &mut pairs)?;
+        let note = noted(flat, pages, code);
+        let others = tried_with(code, prefixed.as_slice(), with_low.as_slice());
+        let more = push_of(alloc, sound, code, note, seconds, others, &mut pairs)?;
         tried = tried.saturating_add(more);
     }
-    let notes = PairNotes::placed(alloc, pairs.as_slice())?;
+    let are_high_prefixed = is_any_high(&prefixed);
+    let notes = PairNotes::placed(alloc, pairs.as_slice(), are_high_prefixed)?;
     Ok(notes)
 }

@@ -32,12 +32,18 @@ pub(crate) struct PairNotes {
     slots: Vec<PairNote>,
     /// How many of them a pair may be looked for at first.
     size: u32,
+    /// Whether prefixes are recorded with characters from U+0800 on.
+    are_high_prefixed: bool,
 }
 
 // (let go of as one, and not part by part, so that what owns one is proved sooner)
 impl Drop for PairNotes {
     fn drop(self) {
-        let PairNotes { slots: _, size: _ } = self;
+        let PairNotes {
+            slots: _,
+            size: _,
+            are_high_prefixed: _,
+        } = self;
     }
 }
 
@@ -136,7 +142,14 @@ impl PairNotes {
         PairNotes {
             slots: Vec::new(alloc),
             size: 0,
+            are_high_prefixed: false,
         }
+    }
+
+    /// Whether prefixes are recorded with characters from U+0800 on.
+    #[inline(always)]
+    pub(crate) fn are_high_prefixed(&self) -> bool {
+        self.are_high_prefixed
     }
 
     /// What is noted of two characters; `None` of others.
@@ -175,13 +188,21 @@ impl PairNotes {
     }
 
     /// Notes of pairs, each in a slot of its own; where there is none near the first, the pair isn't noted.
-    pub(super) fn placed(alloc: Global, pairs: &[PairNote]) -> Result<Self, AllocError>
+    pub(super) fn placed(
+        alloc: Global,
+        pairs: &[PairNote],
+        are_high_prefixed: bool,
+    ) -> Result<Self, AllocError>
         ensures { IfOk result (λ notes. (source : CollationSource) → All (IsPairNote source) pairs.now → ArePairNotes source notes) }
     {
         let size = room_for(pairs.len());
         let count = (size as usize).saturating_add(PROBES);
         let slots = PairNotes::empty_slots(alloc, &PairNote::none(), count)?;
-        let mut notes = PairNotes { slots, size };
+        let mut notes = PairNotes {
+            slots,
+            size,
+            are_high_prefixed,
+        };
         for pair in pairs {
             notes.put(*pair);
         }

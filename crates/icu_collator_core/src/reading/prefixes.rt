@@ -19,7 +19,7 @@ use crate::sound::SoundTables;
 use crate::table_words::counting_words::CountingWord;
 use crate::table_words::fields::has_tag;
 use crate::tables::CollationData;
-use icu_char16trie::Char16Trie;
+use icu_char16trie::{Char16Trie, TrieResult};
 use icu_collator_types::elements::Tag;
 
 /// How many characters a prefix may have.
@@ -90,6 +90,16 @@ impl CountingWord<'_> {
             ≡ option_and_then (λ text. elements_of_word (pools_of self.entry.source.now) text.word) result }
     {
         self.found_prefix(list, index)
+    }
+
+    /// Whether a prefix is recorded that ends with this character.
+    pub(crate) fn has_prefix_with(self, last: char) -> bool {
+        if !has_tag(self.word, Tag::Prefix) {
+            return false;
+        }
+        let trie = context_of(self.source, self.word);
+        let mut cursor = trie.iter();
+        !matches!(cursor.next(last), TrieResult::NoMatch)
     }
 
     /// Whether the longest recorded prefix that stands before the character of the word at an index of a list is the same whatever

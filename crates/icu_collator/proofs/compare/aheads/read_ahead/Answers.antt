@@ -5,8 +5,8 @@ use Rattle.icu_collator.specs.Aheads.{IsReadAhead}
 use Rattle.icu_collator.proofs.orders.AheadLemmas.{hold, read_both, read_more}
 use Rattle.icu_collator.proofs.compare.aheads.read_ahead.Goals as goal
 
-pub returns-then-read-lt256-clause-read : goal.returns-then-read-lt256-clause-read
-returns-then-read-lt256-clause-read g c = λ t items h.
+pub returns-then-not-are_high_prefixed-clause-read : goal.returns-then-not-are_high_prefixed-clause-read
+returns-then-not-are_high_prefixed-clause-read g c = λ t items h.
     let source = c.args.checked.now in
     let read = c.in_ok-read.read in
     let step = c.in_ok-read.ensures items in (
@@ -40,6 +40,18 @@ returns-in-Some-pair_primaries-clause-read g c = λ t items h.
 
 pub returns-in-None-clause-read : goal.returns-in-None-clause-read
 returns-in-None-clause-read g c = λ t items h.
+    let source = c.args.checked.now in
+    let read = c.in_ok-read.read in
+    let told = c.in_ok-read.ensures items in
+    let step = subst (λ it. g.I.Iterator.next_gives it (Some c.in-Some.next) c.next.new.self) c.again-rest.ensures c.in-Some.ensures.steps in (
+      told.0,
+      hold source c.args.numeric g.I.Iterator.next_gives t c.args.chars.now c.next.new.self c.in-Some.next read.class told.0
+          (read_more source c.args.numeric g.I.Iterator.next_gives t c.args.chars.now c.args.c c.args.class items told.0 read h told.1) step,
+      told.1.primaries,
+    )
+
+pub returns-then-not-may_join-clause-read : goal.returns-then-not-may_join-clause-read
+returns-then-not-may_join-clause-read g c = λ t items h.
     let source = c.args.checked.now in
     let read = c.in_ok-read.read in
     let told = c.in_ok-read.ensures items in

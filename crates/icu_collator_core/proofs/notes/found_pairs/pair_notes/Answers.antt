@@ -9,4 +9,4 @@ loop-code-preserved c = c.in_ok-more.ensures
 pub returns : goal.returns
 returns c =
     c.in_ok-notes.ensures c.args.sound.now
-    (subst (λ (notes : List PairNote). All (IsPairNote c.args.sound.now) notes) (sym c.as_slice.ensures.value) c.loop-code.invariant)
+    (subst (λ (notes : List PairNote). All (IsPairNote c.args.sound.now) notes) (sym c.as_slice-2.ensures.value) c.loop-code.invariant)
