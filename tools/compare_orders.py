@@ -11,6 +11,7 @@ records unless PAIRS and SETS say otherwise, each set with eight choices of opti
   numbers   numbers of all lengths, in digits of several scripts, beside variable characters, always numeric
   scripts   as `near`, over lines of the root and of languages
   parted    texts with long beginnings that part within a contraction, marks, a syllable, a number, or at an end of a range
+  prefixes  names of a few kana, over lines of the root and those of Japanese that have prefixes
 
 Each pair is asked in all five encodings, its bytes and units damaged at times, and for both keys. crates/tests_collation_rows
 compiles each set, with fast and with small tries, and answers; it has to be built (`rt run` in its folder; tools/answers.py). What

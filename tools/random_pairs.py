@@ -33,6 +33,7 @@ SCRIPTS = [[*range(0x61, 0x7B)], [*range(0x41, 0x5B), *range(0xC0, 0x180)], [*ra
            [zero + value for zero in ZEROS for value in range(10)],
            [*range(0x3B1, 0x3CF), *range(0x430, 0x460), *range(0x5D0, 0x5EB), *range(0x621, 0x64B)],
            [*range(0x905, 0x94E), *range(0xF40, 0xF85), *range(0x1F600, 0x1F610)]]
+KANA = SCRIPTS[5:7]
 MOST_NAMED = 135
 LENGTHS = [*[1, 2, 5, 9, 14, 15, 16, 17, 18, 31, 40] * 3, *[62, 63, 64, 65, 66] * 2, 90, 130, 218, 222, 240, 260, 515]
 
@@ -171,10 +172,20 @@ def without_faults(lines, read, is_fault):
 
 def script_weights(source, read, is_fault):
     """As random_weights, by lines of the root about characters of some scripts, and of a language."""
+    return weights_of(source, read, is_fault, tailored_lines(source), source.sample(SCRIPTS, source.randint(3, 7)))
+
+
+def prefix_weights(source, read, is_fault):
+    """The same about kana, and of Japanese about such behind others."""
+    lines = [line for line in said_in('languages/ja.records') if '|' in line]
+    return weights_of(source, read, is_fault, ([], source.sample(lines, 40)), KANA)
+
+
+def weights_of(source, read, is_fault, tailoring, groups):
+    """Lines of the root about characters of groups, and of a language, with its settings at times."""
     whole, others, mapped = root_lines()
-    settings, tailored = tailored_lines(source)
+    settings, tailored = tailoring
     chosen = set().union(*map(named, tailored))
-    groups = source.sample(SCRIPTS, source.randint(3, 7))
     pools = [source.sample(group, min(len(group), MOST_NAMED // len(groups))) for group in groups]
     for c in source.sample(sum(pools, []), sum(map(len, pools))):
         parts = {c, *mapped.get(c, ()), *(d for part in mapped.get(c, ()) for d in mapped.get(part, ()))}
@@ -418,9 +429,20 @@ class Pairs:
         left, right = front + left + tails[0], front + right + tails[1]
         return self.source.choice([(left, right), (right, left)])
 
+    def name(self):
+        """A few letters and recorded texts."""
+        letters = [[c] for c in self.speaks_of[0]]
+        parts = [self.source.choice(self.source.choice([self.recorded, letters])) for _ in range(self.source.randint(1, 5))]
+        return [c for part in parts for c in part]
+
+    def names(self):
+        """Two names, most of which begin alike."""
+        front = self.name() if self.source.random() < 0.7 else []
+        return front + self.name(), front + self.name()
+
 
 KINDS = {'near': (random_weights, Pairs.pair), 'numbers': (digit_weights, Pairs.numbers), 'scripts': (script_weights, Pairs.pair),
-         'parted': (any_weights, Pairs.parted)}
+         'parted': (any_weights, Pairs.parted), 'prefixes': (prefix_weights, Pairs.names)}
 
 
 def random_pairs(source, read, is_fault, kind):
